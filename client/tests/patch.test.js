@@ -1,8 +1,9 @@
 // Drawing what has changed: what is the same stays the same element, and the rest becomes what the new content says.
 import assert from "node:assert/strict";
+import { choice, tiles } from "../choices.js";
 import { test } from "node:test";
 import { byId, byTag, happens, nodeOf, textOf } from "./elements.js";
-import { beginningOf, button, choice, element, fragmentOf, freshOf, keptPart, patchContent, table, tiles } from "../dom.js";
+import { beginningOf, button, element, fragmentOf, freshOf, keptPart, patchContent, table } from "../dom.js";
 
 function drawn(...content) {
   const container = nodeOf("main");

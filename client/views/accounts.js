@@ -1,6 +1,7 @@
 // The administrator's desk: users and their roles, inheritance, and new users with a token.
 
-import { button, choice, element, field, heading } from "../dom.js";
+import { choice } from "../choices.js";
+import { button, element, field, heading } from "../dom.js";
 import { ask, command, rolesOf } from "../messages.js";
 import { personText } from "../people.js";
 import { texts } from "../texts.js";

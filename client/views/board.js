@@ -1,7 +1,8 @@
 // A board: its hands, traveller, double-dummy table, and the play at a table. Each part is asked for by itself, and each
 // may be denied by itself.
 
-import { button, element, heading, link, tiles } from "../dom.js";
+import { tiles } from "../choices.js";
+import { button, element, heading, link } from "../dom.js";
 import { ask } from "../messages.js";
 import { reasonOf } from "../occasion.js";
 import { isHeld, marksOf, seatOf, tableOfPair } from "../public_facts.js";

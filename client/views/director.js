@@ -1,6 +1,7 @@
 // The director's desk: the room, the round, held boards, seats, and what belongs to a table's result.
 
-import { button, choice, element, heading } from "../dom.js";
+import { choice } from "../choices.js";
+import { button, element, heading } from "../dom.js";
 import { ask, command } from "../messages.js";
 import { rowsOfBoard } from "../movement.js";
 import { awaitedCells } from "../public_facts.js";

@@ -1,7 +1,8 @@
 // What a director does with a table's result on a board: correct, rule, make void.
 
 import { handsOf } from "../cards.js";
-import { button, choice, element, field, heading, link } from "../dom.js";
+import { choice } from "../choices.js";
+import { button, element, field, heading, link } from "../dom.js";
 import { ask, command } from "../messages.js";
 import { playOf } from "../plays.js";
 import { reasonOf } from "../occasion.js";

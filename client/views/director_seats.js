@@ -1,6 +1,7 @@
 // Who sits where: seats that are given and taken away.
 
-import { button, choice, element, field } from "../dom.js";
+import { choice } from "../choices.js";
+import { button, element, field } from "../dom.js";
 import { ask, command } from "../messages.js";
 import { isTurned, namedSideOf } from "../movement.js";
 import { hasShownName, nameOf, pairText, personText } from "../people.js";

@@ -1,6 +1,7 @@
 // The boards that the user may see and for which chosen conditions hold.
 
-import { button, choice, element, field, heading, link } from "../dom.js";
+import { choice } from "../choices.js";
+import { button, element, field, heading, link } from "../dom.js";
 import { badCondition, boundsOf, conditionKinds, filterOf, mostConditions, newCondition } from "../filters.js";
 import { marksOf } from "../public_facts.js";
 import { addressOf } from "../routes.js";

@@ -1,7 +1,8 @@
 // What goes on paper, or into a spreadsheet: the ranking, score cards, travellers and hand records of the boards that the user
 // may see, and guide cards.
 
-import { button, element, heading, tiles } from "../dom.js";
+import { tiles } from "../choices.js";
+import { button, element, heading } from "../dom.js";
 import { csvText, download } from "../csv.js";
 import { linesOfPairs, linesOfTables } from "../guide_cards.js";
 import { ask } from "../messages.js";

@@ -1,7 +1,8 @@
 // The play of a result: cards to tap, words to type or to paste, and a claim.
 
 import { suits } from "../cards.js";
-import { button, choice, element, keptPart } from "../dom.js";
+import { choice } from "../choices.js";
+import { button, element, keptPart } from "../dom.js";
 import { expectedCards, isTold, overOf, playOf, revokeOf, tricksSoFar, turnOf } from "../plays.js";
 import { texts } from "../texts.js";
 import { cardMark, strainMark } from "./marks.js";

@@ -1,6 +1,7 @@
 // A result by few taps: contract, declarer, doubled and tricks, or passed out.
 
-import { element, keptPart, tileRows, tiles } from "../dom.js";
+import { tileRows, tiles } from "../choices.js";
+import { element, keptPart } from "../dom.js";
 import { changed, missingParts, oversOf, resultOf } from "../results.js";
 import { isVulnerable, overText, scoreOf } from "../scoring.js";
 import { texts } from "../texts.js";

@@ -1,6 +1,7 @@
 // A player who comes without a card, as a substitute or anew: one form for the account, the role and the seat, and then a card.
 
-import { button, choice, element, field } from "../dom.js";
+import { choice } from "../choices.js";
+import { button, element, field } from "../dom.js";
 import { ask } from "../messages.js";
 import { namedSideOf } from "../movement.js";
 import { apart, texts } from "../texts.js";
