@@ -49,6 +49,7 @@ CHECKS = (
     ("tests/pages/decisions_index.py", "--check"),
     ("tests/pages/house_map.py", "--check"),
     ("tests/pages/client_exports.py",),
+    ("tests/pages/wrong_bodies.py",),
     ("tests/pages/page_policy.py",),
 )
 # the page's functions, file by file, since versions of Node.js differ in how they read a folder
