@@ -1,5 +1,6 @@
 """Who is let in, for tests/drivers/hold_ups.py: by what origin, in a crowd, as a stranger, and where there is no room."""
 import pathlib
+import time
 
 from checks import check
 from hold_up_clients import OWN_ORIGIN, SIGNED_IN, SIGNS_IN, asks, is_403, signed_in, until_ended
@@ -85,6 +86,16 @@ def strangers(program):
         check("those who are there are served on", [True] + [False] * 3, [asks(client) for client in there])
 
 
+def is_served_soon(server):
+    """Whether a client is served within ten seconds: the display of the one that has gone may still have to count it, while another display accepts."""
+    until = time.monotonic() + 10
+    while time.monotonic() < until:
+        if is_served(server, 10):
+            return True
+        time.sleep(0.05)
+    return False
+
+
 def full(program):
     """One more than there may be is told so and ended, until one has gone."""
     with Server(program, "--displays", 2, "--workers", 0, "--clients", 3) as server:
@@ -93,4 +104,4 @@ def full(program):
         check("a fourth client of three is told that there is no room, and ended", (FULL, True), (line, ends))
         check("the three are served on", [True] * 3, [asks(client) for client in there])
         there.pop().leave()
-        check("once one has gone another is served", True, is_served(server, 10))
+        check("once one has gone another is served", True, is_served_soon(server))
