@@ -157,7 +157,7 @@ fn by_high_trumps(
     Some(answer(holder.side(), counted))
 }
 
-/// The highest of a player's trumps from which up they are more by so many than the opponents'.
+/// The highest of trumps, a player's or both partners', from which up they are more by so many than the opponents'.
 pub fn lowest_counted(mine: Hand, against: Hand, wanted: u32) -> Option<Card> {
     let mut rest = mine.word();
     for counted in 1..14u32 {
