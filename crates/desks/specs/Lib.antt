@@ -2,4 +2,3 @@ pub mod Batch
 pub mod Kept
 pub mod Places
 pub mod Reentry
-pub mod Work

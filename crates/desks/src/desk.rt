@@ -17,16 +17,16 @@ ghost use Rattle.session_keeper.specs.Keeping.{EntersJust};
 ghost use Rattle.session_keeper.specs.declared.submit_fault.SubmitFault.TheVariants.{OutOfMemory};
 ghost use Rattle.desks.specs.Batch.{IsSubmitted, IsEntered};
 ghost use Rattle.desks.specs.Kept.{IsKeptBy, LeavesJust};
-ghost use Rattle.desks.specs.Work.{IsWorkLeft};
+ghost use Rattle.session_jobs.specs.Work.{IsWorkLeft};
 
 use crate::desk_places::DeskPlace;
 use crate::locked_book::LockedBook;
-use crate::work::work_of;
 use displays::{Display, Receipt, Server};
 use entry_store::EntryStore;
 use movement::Cell;
 use session_book::{Answer, AuditError, AuditRows};
 use session_commands::Command;
+use session_jobs::work_of;
 use session_keeper::SubmitFault;
 use solver_pool::Work;
 use std::marker::Model;

@@ -5,7 +5,7 @@ ghost use mathlib.Core.List.{IsPrefix};
 ghost use Rattle.session_commands.specs.declared.entry.Entry.{Entry};
 ghost use Rattle.session_book.specs.Journal.{replay};
 ghost use Rattle.history.specs.Prefixes.{entries_of};
-ghost use Rattle.desks.specs.Work.{IsWorkLeft};
+ghost use Rattle.session_jobs.specs.Work.{IsWorkLeft};
 
 use crate::desk::Desk;
 use displays::{Display, Server};

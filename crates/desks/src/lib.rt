@@ -10,7 +10,6 @@ mod desk_places;
 mod locked_book;
 mod reentry;
 mod shared;
-mod work;
 
 pub use desk::Desk;
 pub use desk_keeper::DeskKeeper;
@@ -18,4 +17,3 @@ pub use desk_places::{DeskPlace, DeskPlaces, MOST_DESKS, new_tally};
 pub use locked_book::LockedBook;
 pub use reentry::{ReentryFault, reenter, reenter_all};
 pub use shared::Shared;
-pub use work::work_of;

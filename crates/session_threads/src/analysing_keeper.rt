@@ -2,8 +2,6 @@
 
 ghost use Rattle.std.specs.Prelude.{◌≡◌};
 
-use crate::hearing::hear_batch;
-use crate::job_queue::JobQueue;
 use desks::DeskKeeper;
 use displays::Server;
 use entry_store::EntryStore;
@@ -12,6 +10,8 @@ use movement::Cell;
 use published_view::{NoEntry, QueryFault};
 use session_book::Answer;
 use session_commands::{Command, Target, Touched};
+use session_events::hear_batch;
+use session_jobs::JobQueue;
 use session_keeper::{AuditReceipt, BatchReceipt, CommandKeeper, Keeper, SubmitFault};
 use session_queries::{Query, Reply};
 use session_roles::Edition;
@@ -42,10 +42,11 @@ impl<'a, N: Server, K: EntryStore> AnalysingKeeper<'a, N, K> {
 
     // Queues what is left to find of each result that was accepted.
     fn analyse<R: Wait>(&self, rt: &R, batch: &[Command], answers: &[Answer]) {
-        if let Some(queue) = self.queue {
-            for (command, answer) in batch.iter().zip(answers.iter()) {
-                self.analyse_one(rt, queue, command, answer);
-            }
+        let Some(queue) = self.queue else {
+            return;
+        };
+        for place in 0..batch.len().min(answers.len()) {
+            self.analyse_one(rt, queue, &batch[place], &answers[place]);
         }
     }
 
@@ -108,9 +109,10 @@ impl<'a, N: Server, K: EntryStore, R: Wait + Clock> CommandKeeper<R> for Analysi
         if let Some(log) = self.log {
             hear_batch(rt, log, actor, batch, &outcome);
         }
-        let receipt = outcome?;
-        self.analyse(rt, batch, receipt.submission.answers.as_slice());
-        Ok(receipt)
+        if let Ok(receipt) = &outcome {
+            self.analyse(rt, batch, receipt.submission.answers.as_slice());
+        }
+        outcome
     }
 
     fn submit_found(&mut self, rt: &R, command: &Command) -> Answer {

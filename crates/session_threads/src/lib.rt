@@ -4,8 +4,6 @@
 
 mod analysing_keeper;
 mod announcement;
-mod hearing;
-mod job_queue;
 mod serving;
 mod tasks;
 

@@ -11,9 +11,8 @@ ghost use Rattle.desks.specs.Kept.{IsKeptBy, LeavesJust};
 ghost use Rattle.desks.specs.Places.{IsTallyOf};
 
 use crate::announcement::Announcement;
-use crate::job_queue::JobQueue;
-use crate::tasks::{CloseQueue, Collect, Hall, ServeClients, Solve};
-use crossbeam_channel::{Receiver, Sender, unbounded};
+use crate::tasks::{Collect, Hall, ServeClients};
+use crossbeam_channel::Receiver;
 use desks::{DeskPlaces, ReentryFault, Shared, new_tally, reenter_all};
 use displays::{Display, OpenError, Publisher, Server, open_displays};
 use entry_store::EntryStore;
@@ -26,8 +25,9 @@ use published_view::View;
 use service_threads::run_tasks;
 use session_book::Book;
 use session_commands::Entry;
+use session_jobs::{CloseQueue, JobQueue, workers_of};
 use solver_pool::Done;
-use std::alloc::{AllocError, Global};
+use std::alloc::Global;
 use std::fmt;
 use std::hash::RandomState;
 use std::io::Write;
@@ -267,7 +267,7 @@ fn share<N: Server, R: Wait, K: EntryStore>(
     match reenter_all(rt, &mut book, &mut publisher, publications.as_slice()) {
         Ok(()) => {
             if workers > 0 {
-                queue.add_left(rt, &book);
+                queue.add_left(rt, book.state());
             }
             Ok(Shared::new(alloc, book, publisher, store, tally))
         }
@@ -384,7 +384,8 @@ where
     ensures unannounced { OnErr result ((errors.new ≡ errors.old)
         ⊎ A.tells announcement.now (E.contents errors.old) (E.contents errors.new)) }
 {
-    let Ok((workers, results)) = workers_of(hall.alloc, queue, plan) else {
+    let Ok((workers, results)) = workers_of(hall.alloc, queue, plan.budget, plan.log.is_some())
+    else {
         return Err(ServingError::OutOfMemory);
     };
     let mut places = places;
@@ -402,40 +403,6 @@ where
         0 => Err(ServingError::NoThread),
         _ => Ok(()),
     }
-}
-
-// What the workers do, and where what they find comes.
-fn workers_of<'a>(
-    alloc: Global,
-    queue: &'a JobQueue,
-    plan: ServingPlan<'_>,
-) -> Result<(Vec<Solve<'a>>, Receiver<Done>), AllocError> {
-    let (from_workers, results) = unbounded::<Done, Global>(alloc)?;
-    let solvers = solvers(alloc, queue, from_workers, plan)?;
-    Ok((solvers, results))
-}
-
-// What the workers do.
-fn solvers<'a>(
-    alloc: Global,
-    queue: &'a JobQueue,
-    from_workers: Sender<Done>,
-    plan: ServingPlan<'_>,
-) -> Result<Vec<Solve<'a>>, AllocError>
-    ensures { IfOk result (λ solvers. All (λ solver. solver.budget ≡ plan.entry.budget) solvers.items) }
-{
-    let mut solvers = Vec::with_capacity(alloc, plan.workers as usize)?;
-    for _ in 0..plan.workers {
-        let results = from_workers.clone()?;
-        solvers.push(Solve {
-            alloc,
-            queue,
-            results,
-            budget: plan.budget,
-            is_timed: plan.log.is_some(),
-        })?;
-    }
-    Ok(solvers)
 }
 
 // What the thread does that takes in what the workers find, at a desk of its own.

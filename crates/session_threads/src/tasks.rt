@@ -3,10 +3,8 @@
 ghost use Rattle.std.specs.Prelude.{◌≡◌, []};
 
 use crate::analysing_keeper::AnalysingKeeper;
-use crate::hearing::{hear_found, now, time_since};
-use crate::job_queue::JobQueue;
 use collector::collect;
-use crossbeam_channel::{Receiver, Sender};
+use crossbeam_channel::Receiver;
 use desks::{Desk, DeskKeeper};
 use displays::{Display, Server};
 use entry_store::EntryStore;
@@ -16,14 +14,15 @@ use hall_threads::{HallPlan, HallWatch};
 use page_answers::PageAnswers;
 use service_threads::Task;
 use session_clients::serve_session_hall;
-use solver_pool::{Done, Gate, run_worker};
+use session_events::hear_found;
+use session_jobs::JobQueue;
+use solver_pool::Done;
 use std::alloc::Global;
-use std::cell::Cell;
 use std::io::{Read, Write};
 use std::net::{OpenListener, OpenStream};
 use std::os::fd::AsRawFd;
 use std::sync::Wait;
-use std::time::{Clock, Instant};
+use std::time::Clock;
 
 /// What the threads of all displays have in common.
 #[derive(Drop)]
@@ -75,59 +74,6 @@ where
     }
 }
 
-/// Solves the jobs that come, each with so many visits, and has tables given out as it is done with them. How long each took is
-/// noted, if it is to be.
-#[derive(Drop)]
-pub(crate) struct Solve<'a> {
-    pub(crate) alloc: Global,
-    pub(crate) queue: &'a JobQueue,
-    pub(crate) results: Sender<Done>,
-    pub(crate) budget: u64,
-    pub(crate) is_timed: bool,
-}
-
-impl<'a> Task for Solve<'a> {
-    fn run<R: Wait + Clock>(self, rt: &R) {
-        let Solve {
-            alloc,
-            queue,
-            results,
-            budget,
-            is_timed,
-        } = self;
-        let gate = QueueGate {
-            rt,
-            queue,
-            is_timed,
-            begun: Cell::new(None),
-        };
-        run_worker(rt, alloc, &gate, queue.jobs(), &results, budget);
-    }
-}
-
-/// Lets each job pass, and tells the queue that it is done, and how long it took.
-#[derive(Drop)]
-struct QueueGate<'a, R: Wait + Clock> {
-    rt: &'a R,
-    queue: &'a JobQueue,
-    is_timed: bool,
-    // When the job was begun that is being solved.
-    begun: Cell<Option<Instant>>,
-}
-
-impl<R: Wait + Clock> Gate for QueueGate<'_, R> {
-    fn pass(&self, _job: u32) {
-        if self.is_timed {
-            self.begun.set(now(self.rt));
-        }
-    }
-
-    fn done(&self, job: u32) {
-        let took = time_since(self.rt, self.begun.get());
-        self.queue.done(self.rt, job, took);
-    }
-}
-
 /// Enters what the workers find. What was found before, or within too few visits or too little memory, is dropped, and so
 /// is what the book refuses. What was found of each job is logged, if there is a log.
 #[derive(Drop)]
@@ -167,18 +113,4 @@ fn enter<N: Server, K: EntryStore, R: Wait>(
 ) {
     let mut pool = queue.pool().lock(rt);
     let _told = collect(rt, &mut pool, desk, done);
-}
-
-/// Closes the way to the workers, and drops the jobs that still wait: nobody is left to see what they would find.
-#[derive(Drop)]
-pub(crate) struct CloseQueue<'a> {
-    pub(crate) queue: &'a JobQueue,
-}
-
-impl<'a> Task for CloseQueue<'a> {
-    fn run<R: Wait + Clock>(self, rt: &R) {
-        let CloseQueue { queue } = self;
-        queue.close(rt);
-        for _job in queue.jobs().try_iter(rt) {}
-    }
 }

@@ -7,11 +7,11 @@ use session_keeper::{BatchReceipt, SubmitFault};
 use session_roles::Operation;
 use solver_pool::{Done, Found, Work};
 use std::sync::Wait;
-use std::time::{Clock, Duration, Instant};
+use std::time::{Clock, Duration};
 use user_names::Name;
 
 /// A log hears what became of a user's batch.
-pub(crate) fn hear_batch<R: Wait + Clock>(
+pub fn hear_batch<R: Wait + Clock>(
     rt: &R,
     log: &SharedLog,
     actor: Name,
@@ -36,18 +36,14 @@ fn hear_receipt<R: Wait + Clock>(
     receipt: &BatchReceipt,
 ) {
     let submission = &receipt.submission;
+    let answers = submission.answers.as_slice();
+    let count = answers.len().min(batch.len()).min(Book::MOST_COMMANDS);
     let mut told = [AnsweredCommand::Entered(CommandWord::Of(
         Operation::Enter,
     )); Book::MOST_COMMANDS];
-    let answers = batch.iter().zip(submission.answers.iter());
-    for (place, (command, answer)) in told.iter_mut().zip(answers) {
-        *place = answered(command, answer);
+    for place in 0..count {
+        told[place] = answered(&batch[place], &answers[place]);
     }
-    let count = submission
-        .answers
-        .len()
-        .min(batch.len())
-        .min(Book::MOST_COMMANDS);
     let (first, last) = (submission.first as u64, submission.last as u64);
     log.hear(rt, &Event::Answered(actor, first, last, &told[..count]));
 }
@@ -70,12 +66,7 @@ fn fault_of(fault: &SubmitFault) -> BatchFault {
 }
 
 /// A log hears what was found of a job, and how long it took, where that is known.
-pub(crate) fn hear_found<R: Wait + Clock>(
-    rt: &R,
-    log: &SharedLog,
-    done: &Done,
-    took: Option<Duration>,
-) {
+pub fn hear_found<R: Wait + Clock>(rt: &R, log: &SharedLog, done: &Done, took: Option<Duration>) {
     let is_found = matches!(done.found(), Found::Table(_) | Found::Costs(_));
     let event = match done.job().work {
         Work::Table { board, .. } if is_found => Event::TableSolved(board, took),
@@ -84,19 +75,4 @@ pub(crate) fn hear_found<R: Wait + Clock>(
         Work::Costs { cell, .. } => Event::NotFound(cell.board, took),
     };
     log.hear(rt, &event);
-}
-
-/// What the clock says, if it can be read.
-pub(crate) fn now<R: Clock>(rt: &R) -> Option<Instant> {
-    match Instant::now(rt) {
-        Ok(now) => Some(now),
-        Err(_) => None,
-    }
-}
-
-/// How long ago something was begun, where the clock could be read then and now.
-pub(crate) fn time_since<R: Clock>(rt: &R, begun: Option<Instant>) -> Option<Duration> {
-    let begun = begun?;
-    let now = now(rt)?;
-    Some(now.duration_since(begun))
 }

@@ -1,9 +1,8 @@
 //! The jobs of a session, on their way to the workers.
 
+use crate::work::work_of;
 use crossbeam_channel::{Receiver, Sender, unbounded};
-use desks::work_of;
 use movement::Cell;
-use session_book::Book;
 use session_state::State;
 use solver_pool::{Job, Pool, Work};
 use std::alloc::{AllocError, Global};
@@ -13,7 +12,7 @@ use std::time::Duration;
 /// Numbers jobs in a pool, and gives them to the workers: what the cards of a play cost at once, and of the tables only so many that
 /// each worker has work. So no costs wait for more than a table's time, however many boards are left.
 #[derive(Drop)]
-pub(crate) struct JobQueue {
+pub struct JobQueue {
     pool: Mutex<Pool>,
     waiting: Mutex<Waiting>,
     // What the workers receive.
@@ -43,7 +42,7 @@ struct WantedTable {
 
 impl JobQueue {
     /// The way to so many workers.
-    pub(crate) fn open(alloc: Global, workers: u8) -> Result<JobQueue, AllocError> {
+    pub fn open(alloc: Global, workers: u8) -> Result<JobQueue, AllocError> {
         let pool = Pool::new(alloc)?;
         let (to_workers, jobs) = unbounded::<Job, Global>(alloc)?;
         let waiting = Waiting {
@@ -60,18 +59,23 @@ impl JobQueue {
         })
     }
 
+    /// How many workers there are.
+    pub fn workers(&self) -> u8 {
+        self.workers
+    }
+
     /// The jobs that are given to the workers, who share them.
-    pub(crate) fn jobs(&self) -> &Receiver<Job> {
+    pub fn jobs(&self) -> &Receiver<Job> {
         &self.jobs
     }
 
     /// The pool that numbers the jobs.
-    pub(crate) fn pool(&self) -> &Mutex<Pool> {
+    pub fn pool(&self) -> &Mutex<Pool> {
         &self.pool
     }
 
     /// Gives work to the workers. Where it can't be numbered or sent, it is dropped.
-    pub(crate) fn add<R: Wait>(&self, rt: &R, work: Work) {
+    pub fn add<R: Wait>(&self, rt: &R, work: Work) {
         if let Some(job) = number(rt, &self.pool, work) {
             let mut waiting = self.waiting.lock(rt);
             waiting.give(rt, job);
@@ -80,8 +84,7 @@ impl JobQueue {
 
     /// Gives the workers what is left to find in a session: what the cards cost that were played at a cell, and each board's
     /// table, those first whose board is played next.
-    pub(crate) fn add_left<R: Wait>(&self, rt: &R, book: &Book) {
-        let state = book.state();
+    pub fn add_left<R: Wait>(&self, rt: &R, state: &State) {
         for table in 0..state.public().movement.tables() {
             self.add_costs(rt, state, table + 1);
         }
@@ -91,19 +94,19 @@ impl JobQueue {
 
     /// Hears that a worker is done with a job, and how long it took if that was to be known, and gives out tables until each
     /// worker has work.
-    pub(crate) fn done<R: Wait>(&self, rt: &R, job: u32, took: Option<Duration>) {
+    pub fn done<R: Wait>(&self, rt: &R, job: u32, took: Option<Duration>) {
         self.note_done(rt, job, took);
         self.give_tables(rt);
     }
 
     /// Takes how long a job took, if that is known.
-    pub(crate) fn take_time<R: Wait>(&self, rt: &R, job: u32) -> Option<Duration> {
+    pub fn take_time<R: Wait>(&self, rt: &R, job: u32) -> Option<Duration> {
         let mut waiting = self.waiting.lock(rt);
         waiting.take_time(job)
     }
 
     /// Drops what is left to give out, and closes the way to the workers.
-    pub(crate) fn close<R: Wait>(&self, rt: &R) {
+    pub fn close<R: Wait>(&self, rt: &R) {
         let mut waiting = self.waiting.lock(rt);
         waiting.tables.clear();
         waiting.jobs = None;

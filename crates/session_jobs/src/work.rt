@@ -5,7 +5,7 @@ ghost use Rattle.cards.specs.Hands.{Hands};
 ghost use Rattle.movement.specs.Movement.{IsCell, IsSection};
 ghost use Rattle.movement.specs.Row.{IsCellInRange};
 ghost use Rattle.session_state.specs.SessionState.{cell_at};
-ghost use Rattle.desks.specs.Work.{IsWorkLeft, costs_wanted, work_left};
+ghost use Rattle.session_jobs.specs.Work.{IsWorkLeft, costs_wanted, work_left};
 
 use cards::{Deal, Play};
 use movement::Cell;

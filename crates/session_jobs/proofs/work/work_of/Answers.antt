@@ -3,8 +3,8 @@ use Rattle.cards.specs.Hands.{Hands}
 use Rattle.movement.specs.Movement.{IsCell}
 use Rattle.movement.specs.declared.cell.Cell.{Cell}
 use Rattle.session_state.specs.SessionState.{cell_at}
-use Rattle.desks.specs.Work.{work_left}
-use Rattle.desks.proofs.work.work_of.Goals as goal
+use Rattle.session_jobs.specs.Work.{work_left}
+use Rattle.session_jobs.proofs.work.work_of.Goals as goal
 
 pub returns-in-Some : goal.returns-in-Some
 returns-in-Some c =
