@@ -22,10 +22,10 @@ use hall_threads::{HallPlan, HallWatch, WatchError};
 use history::History;
 use page_answers::PageAnswers;
 use published_view::View;
-use service_threads::run_tasks;
+use service_threads::{Task, run_tasks};
 use session_book::Book;
 use session_commands::Entry;
-use session_jobs::{CloseQueue, JobQueue, workers_of};
+use session_jobs::{CloseQueue, JobQueue, Solve, workers_of};
 use solver_pool::Done;
 use std::alloc::Global;
 use std::fmt;
@@ -41,6 +41,13 @@ use std::thread::Threads;
 use std::time::Clock;
 use thiserror::Error;
 use websocket_server::listen;
+
+// What the threads of a session do.
+type Crew<'a, N, K, L> = (
+    Collect<'a, N, K>,
+    Vec<Solve<'a>>,
+    Vec<ServeClients<'a, N, K, L>>,
+);
 
 // How many bytes the stack of each thread has.
 const STACK: usize = 1_048_576;
@@ -318,33 +325,36 @@ where
     let listener = open_port(rt, plan.address)?;
     let room = Room::new(plan.clients);
     let crowd = AtomicUsize::new(0);
-    let hall = Hall {
+    let hall = hall_of(alloc, &listener, &room, &crowd, queue, plan);
+    let (collector, workers, serving) = crew_of(rt, &hall, shared, places, displays, queue, plan)?;
+    launch(rt, collector, workers, serving, queue, announcement, errors)
+}
+
+// What the threads of the displays have in common.
+fn hall_of<'a, L: OpenListener>(
+    alloc: Global,
+    listener: &'a L,
+    room: &'a Room,
+    crowd: &'a AtomicUsize,
+    queue: &'a JobQueue,
+    plan: ServingPlan<'a>,
+) -> Hall<'a, L> {
+    Hall {
         alloc,
-        listener: &listener,
+        listener,
         queue: queue_of(queue, plan.workers),
         page: plan.page,
         plan: HallPlan {
             connections: plan.connections,
             idle: plan.idle,
             origin: plan.origin,
-            room: &room,
-            crowd: &crowd,
+            room,
+            crowd,
             threads: plan.displays as usize,
             keys: plan.keys,
         },
         log: plan.log,
-    };
-    serve_hall(
-        rt,
-        &hall,
-        shared,
-        places,
-        displays,
-        queue,
-        plan,
-        announcement,
-        errors,
-    )
+    }
 }
 
 // Listens at a port. No display waits for the listener alone.
@@ -358,50 +368,56 @@ fn open_port<R: Net>(rt: &R, address: SocketAddr) -> Result<R::Listener, Serving
     Ok(listener)
 }
 
-// Serves a session in a hall whose port is open.
-fn serve_hall<
-    N: Server + Send + Sync,
-    R: Threads + Wait + Clock + Net + Sync,
-    K: EntryStore + Send,
+// Announces that the port is open, and runs what each thread does. It needs to know nothing of what they do.
+fn launch<
+    R: Threads + Wait + Clock + Sync,
+    C: Task + Send + Drop,
+    W: Task + Send + Drop,
+    S: Task + Send + Drop,
     A: Announcement,
     E: Write,
 >(
     rt: &R,
-    hall: &Hall<'_, R::Listener>,
-    shared: &Shared<N, K>,
-    places: DeskPlaces<N>,
-    displays: Vec<Display<N>>,
+    collector: C,
+    workers: Vec<W>,
+    serving: Vec<S>,
     queue: &JobQueue,
-    plan: ServingPlan<'_>,
     announcement: &A,
     errors: &mut E,
 ) -> Result<(), ServingError>
-where
-    R::Listener: Sync,
-    R::Stream: Send,
-    requires { All (λ display. display ≡ []) displays.items }
-    ensures announced { IfOk result (λ _. A.tells announcement.now (E.contents errors.old) (E.contents errors.new)) }
-    ensures unannounced { OnErr result ((errors.new ≡ errors.old)
-        ⊎ A.tells announcement.now (E.contents errors.old) (E.contents errors.new)) }
+    ensures announced { A.tells announcement.now (E.contents errors.old) (E.contents errors.new) }
 {
-    let Ok((workers, results)) = workers_of(hall.alloc, queue, plan.budget, plan.log.is_some())
-    else {
-        return Err(ServingError::OutOfMemory);
-    };
-    let mut places = places;
-    let collector = collector_of(shared, &mut places, queue, results, plan.log)?;
-    let serving = match servers(rt, hall, shared, &mut places, displays) {
-        Ok(serving) => serving,
-        Err(error) => {
-            drop(collector);
-            return Err(error);
-        }
-    };
     announcement.announce(errors);
     let ending = CloseQueue { queue };
     match run_tasks(rt, STACK, collector, workers, serving, ending) {
         0 => Err(ServingError::NoThread),
         _ => Ok(()),
+    }
+}
+
+// What the threads do: the one that takes in what the workers find, the workers', and the displays'.
+fn crew_of<'a, N: Server, K: EntryStore, R: Net + Clock, L: OpenListener + AsRawFd>(
+    rt: &R,
+    hall: &'a Hall<'a, L>,
+    shared: &'a Shared<N, K>,
+    mut places: DeskPlaces<N>,
+    displays: Vec<Display<N>>,
+    queue: &'a JobQueue,
+    plan: ServingPlan<'_>,
+) -> Result<Crew<'a, N, K, L>, ServingError>
+    requires { All (λ display. display ≡ []) displays.items }
+{
+    let Ok((workers, results)) = workers_of(hall.alloc, queue, plan.budget, plan.log.is_some())
+    else {
+        return Err(ServingError::OutOfMemory);
+    };
+    let collector = collector_of(shared, &mut places, queue, results, hall.log)?;
+    match servers(rt, hall, shared, &mut places, displays) {
+        Ok(serving) => Ok((collector, workers, serving)),
+        Err(error) => {
+            drop(collector);
+            Err(error)
+        }
     }
 }
 
