@@ -10,9 +10,11 @@ director enters and confirms results, each in a batch of its own, or holds and r
 five rounds of each. Processor time is the system's (Linux's schedstat) of the program's whole.
 
 With `--side-by-side` just the processor time of an Enter and of a Confirm is measured, of two servers that run at the same time and get
-each command one after the other, in alternating order: what the rest of the machine does then falls on both alike. In a folder of a file
-system in memory, as /dev/shm, a sync costs nothing, so that is what a journal costs beside it. Each round has two servers of its own.
+twenty commands each in turn, in alternating order: what the rest of the machine does then falls on both alike. The first four of twenty
+aren't counted, since they find what the other server left in the processor's caches. In a folder of a file system in memory, as /dev/shm, a
+sync costs nothing, so that is what a journal costs beside it, with the writes. Each round has two servers of its own.
 """
+import itertools
 import json
 import multiprocessing
 import os
@@ -35,6 +37,7 @@ PROGRAM = WORDS[0] if WORDS else "crates/bridge_server/out/bridge_server"
 FOLDER = WORDS[1] if len(WORDS) > 1 else None
 SECONDS = float(WORDS[2]) if len(WORDS) > 2 else 2
 ROUNDS = 5
+IN_TURN, COLD = 20, 4
 OPENED = book_time.session()
 DEALS = OPENED.pop("pbn")
 ENTRIES = (2_000, 60_000)
@@ -118,21 +121,22 @@ def confirms(folder, kept):
 
 
 def confirms_side_by_side(folder):
-    """Microseconds of processor time of an Enter and of a Confirm without a journal and with one, of two servers that get each command in turn."""
+    """Microseconds of processor time of an Enter and of a Confirm without a journal and with one, of two servers that get twenty commands each in turn."""
     with server(None) as without, server(new_file(folder)) as kept:
         places = [(at, signed_in(at), {"Enter": [], "Confirm": []}) for at in (without, kept)]
-        source = book_time.commands()
-        for count in range(5 * 2 * book_time.BOARDS + 4):
-            _, command = next(source)
-            for at, client, took in places if count % 4 < 2 else reversed(places):
-                before = spent(at.process)
-                assert '"ok"' in client.ask({"do": [command]})
-                took.setdefault(command["cmd"], []).append(1e6 * (spent(at.process) - before))
+        commands = list(itertools.islice(book_time.commands(), 5 * 2 * book_time.BOARDS))
+        for start in range(0, len(commands), IN_TURN):
+            for at, client, took in places if start // IN_TURN % 2 == 0 else reversed(places):
+                for place, (_, command) in enumerate(commands[start:start + IN_TURN]):
+                    before = spent(at.process)
+                    assert '"ok"' in client.ask({"do": [command]})
+                    if place >= COLD:
+                        took.setdefault(command["cmd"], []).append(1e6 * (spent(at.process) - before))
     return [took for _, _, took in places]
 
 
 def tell_side_by_side(folder, rounds):
-    """A line a round and word: the means, and the median of the ratios of one command to the same without a journal; then the same of all rounds."""
+    """A line a round and word: the means and the medians; then the same of all rounds."""
     every = {"Enter": ([], []), "Confirm": ([], [])}
     for count in range(rounds):
         without, kept = confirms_side_by_side(folder)
@@ -145,9 +149,8 @@ def tell_side_by_side(folder, rounds):
 
 
 def tell_ratio(what, without, kept):
-    ratios = [one / other for one, other in zip(kept, without)]
     print(f"{what}: {statistics.mean(without):.1f} and {statistics.mean(kept):.1f} microseconds in the mean, {statistics.mean(kept) / statistics.mean(without):.3f} times; "
-          f"medians {statistics.median(without):.1f} and {statistics.median(kept):.1f}; the median of the commands' ratios {statistics.median(ratios):.3f}", flush=True)
+          f"medians {statistics.median(without):.1f} and {statistics.median(kept):.1f}, {statistics.median(kept) / statistics.median(without):.3f} times", flush=True)
 
 
 def enter_batches(at, ends):
