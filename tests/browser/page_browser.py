@@ -42,15 +42,18 @@ class Browser:
 
     @classmethod
     def open_webkit(cls, downloads):
-        """Debian's webkit2gtk-driver, on a screen of Xvfb's."""
-        display = f":{90 + os.getpid() % 900}"
-        cls.screen = subprocess.Popen(["Xvfb", display, "-screen", "0", "1400x1200x24"], stdin=subprocess.DEVNULL, stderr=subprocess.DEVNULL)
+        """Debian's webkit2gtk-driver, on a screen of Xvfb's, which tells the number of one that is free once it is there."""
+        told, tells = os.pipe()
+        words = ["Xvfb", "-displayfd", str(tells), "-screen", "0", "1400x1200x24"]
+        cls.screen = subprocess.Popen(words, pass_fds=[tells], stdin=subprocess.DEVNULL, stderr=subprocess.DEVNULL)
+        os.close(tells)
+        with os.fdopen(told) as number:
+            display = f":{number.readline().strip()}"
         home = pathlib.Path(downloads, "home")
         (home / ".config").mkdir(parents=True)
         (home / ".config" / "user-dirs.dirs").write_text(f'XDG_DOWNLOAD_DIR="{downloads}"\n')
         # the test is trusted as much as its browser, and may run as root
         os.environ.update(DISPLAY=display, HOME=str(home), WEBKIT_DISABLE_SANDBOX_THIS_IS_DANGEROUS="1")
-        until("the screen is there", lambda: pathlib.Path(f"/tmp/.X11-unix/X{display[1:]}").exists())
         options = webdriver.webkitgtk.options.Options()
         [options.binary_location] = [str(path) for path in pathlib.Path("/usr/lib").glob("*/webkit2gtk-4.1/MiniBrowser")]
         options.add_argument("--automation")
