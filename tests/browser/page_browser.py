@@ -52,8 +52,8 @@ class Browser:
         home = pathlib.Path(downloads, "home")
         (home / ".config").mkdir(parents=True)
         (home / ".config" / "user-dirs.dirs").write_text(f'XDG_DOWNLOAD_DIR="{downloads}"\n')
-        # the test is trusted as much as its browser, and may run as root
-        os.environ.update(DISPLAY=display, HOME=str(home), WEBKIT_DISABLE_SANDBOX_THIS_IS_DANGEROUS="1")
+        # the test is trusted as much as its browser, and may run as root; Mesa's drawing in software has crashed in the thread that composes layers
+        os.environ.update(DISPLAY=display, HOME=str(home), WEBKIT_DISABLE_SANDBOX_THIS_IS_DANGEROUS="1", WEBKIT_DISABLE_COMPOSITING_MODE="1")
         options = webdriver.webkitgtk.options.Options()
         [options.binary_location] = [str(path) for path in pathlib.Path("/usr/lib").glob("*/webkit2gtk-4.1/MiniBrowser")]
         options.add_argument("--automation")
