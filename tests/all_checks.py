@@ -107,6 +107,7 @@ ALONE = (
     (DEBIAN_PYTHON, ("tests/drivers/many_clients.py", SERVER)),
     (DEBIAN_PYTHON, ("tests/browser/page_session.py", SERVER)),
     (DEBIAN_PYTHON, ("tests/browser/evening.py", SERVER)),
+    (DEBIAN_PYTHON, ("tests/browser/page_session.py", SERVER, "1", "1200", "webkit")),
 )
 
 

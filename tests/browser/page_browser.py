@@ -1,4 +1,5 @@
 """A window of a browser, for tests/browser/page_session.py: what WebDriver is asked, in Chromium and in WebKit."""
+import contextlib
 import os
 import pathlib
 import subprocess
@@ -7,11 +8,12 @@ import time
 from page_checks import LeftOut
 from page_devices import WAIT, until
 from selenium import webdriver
-from selenium.common.exceptions import ElementNotInteractableException, JavascriptException, StaleElementReferenceException
+from selenium.common.exceptions import ElementNotInteractableException, JavascriptException, StaleElementReferenceException, WebDriverException
 from selenium.webdriver.chrome.service import Service
 from selenium.webdriver.common.action_chains import ActionChains
 from selenium.webdriver.common.by import By
 from selenium.webdriver.common.keys import Keys
+from urllib3.exceptions import HTTPError
 
 # what a press does in a window is noted, so that one that the driver lost can be told from one that the page didn't hear
 BEFORE_PRESS = """
@@ -34,11 +36,23 @@ class Browser:
 
     @classmethod
     def close(cls):
-        if cls.driver:
-            cls.driver.quit()
+        with contextlib.suppress(WebDriverException, HTTPError, OSError):  # one that has died says nothing more
+            if cls.driver:
+                cls.driver.quit()
         if cls.screen:
             cls.screen.terminate()
             cls.screen.wait()
+
+    @classmethod
+    def has_died(cls):
+        """Whether a process of the browser's ended by itself: a window that is there runs no script."""
+        try:
+            for handle in cls.driver.window_handles:
+                cls.driver.switch_to.window(handle)
+                cls.driver.execute_script("return 1")
+        except (WebDriverException, HTTPError, OSError):
+            return True
+        return False
 
     @classmethod
     def open_webkit(cls, downloads):

@@ -5,7 +5,7 @@ edition, a Howell, and 128 boards.
     /usr/bin/python3 tests/browser/page_session.py crates/bridge_server/out/bridge_server [workers, else 1 [seconds, else 1200 [webkit]]]
 
 It needs Debian's chromium, chromium-driver, python3-selenium, python3-websockets, nginx-light, openssl, qrencode and zbar-tools; `make test` runs it after the
-gate. It starts the server with four displays, nginx with the configuration of docs/RUNNING.md before it, and one Chromium with a
+gate, in Chromium and then in WebKit. It starts the server with four displays, nginx with the configuration of docs/RUNNING.md before it, and one Chromium with a
 window for each of five users; all of it on 127.0.0.1, and all of it ends with the test. What is wanted comes from the server's
 replies, read past the page, from docs/PROTOCOL.md, docs/POLICY.md and the Laws, never from what the page shows. It takes some five
 minutes where the processors are free, and ends after so many seconds whatever happens. The last line is `N passed, M failed`; the
@@ -124,20 +124,17 @@ def stop_in_time(signal_number, frame):
     raise OutOfTime("it takes too long" if signal_number == signal.SIGALRM else "it was told to end")
 
 
-def main():
-    program = sys.argv[1] if len(sys.argv) > 1 else "crates/bridge_server/out/bridge_server"
-    workers = int(sys.argv[2]) if len(sys.argv) > 2 else 1
-    Browser.is_webkit = sys.argv[4:] == ["webkit"]
-    for each in (signal.SIGALRM, signal.SIGTERM, signal.SIGINT):
-        signal.signal(each, stop_in_time)
-    signal.alarm(int(sys.argv[3]) if len(sys.argv) > 3 else 1200)
+def played(program, workers, seconds):
+    """Plays the session in a browser, for so many seconds at most, and says whether the browser was there to the end."""
+    signal.alarm(seconds)
     server, hostile = Server(program, workers), Hostile()
-    nginx = Nginx(server.port, hostile.port)
+    nginx, died = Nginx(server.port, hostile.port), False
     try:
         for each in (server, hostile, nginx):
             each.start()
         with tempfile.TemporaryDirectory() as downloads:
             part(play)(server, nginx, downloads, workers > 0)
+            died = Browser.is_webkit and bool(FAILED) and Browser.has_died()
     except OutOfTime as why:
         check("the test ends by itself", "", str(why))
     finally:
@@ -145,6 +142,20 @@ def main():
         for each in (nginx, hostile, server):
             each.stop()
         Browser.close()
+    return not died
+
+
+def main():
+    program = sys.argv[1] if len(sys.argv) > 1 else "crates/bridge_server/out/bridge_server"
+    workers, seconds = (int(sys.argv[at]) if len(sys.argv) > at else most for at, most in ((2, 1), (3, 1200)))
+    Browser.is_webkit = sys.argv[4:] == ["webkit"]
+    for each in (signal.SIGALRM, signal.SIGTERM, signal.SIGINT):
+        signal.signal(each, stop_in_time)
+    if not played(program, workers, seconds):
+        print(f"again   a process of WebKit's ended by itself, after {len(PASSED)} passed and {len(FAILED)} failed; all is played once more", flush=True)
+        PASSED.clear()
+        FAILED.clear()
+        played(program, workers, seconds)
     print(f"{len(PASSED)} passed, {len(FAILED)} failed")
     return 1 if FAILED else 0
 
