@@ -2,19 +2,13 @@
 """Measures what a journal's file costs a server: receipts, processor time, queries meanwhile, starts, and the file's size.
 
     benches/journal_time.py [PROGRAM] [FOLDER] [SECONDS]
-    benches/journal_time.py --side-by-side [PROGRAM] [FOLDER] [ROUNDS]
 
 The files lie in the folder, else in the system's for temporary files: it decides which disk is measured, and so how long a sync takes.
 Python's standard library is enough. The session is that of benches/book_time.py: 16 tables, 64 boards, 256 accounts; a
 director enters and confirms results, each in a batch of its own, or holds and releases boards. With a journal and without one take turns,
 five rounds of each. Processor time is the system's (Linux's schedstat) of the program's whole.
-
-With `--side-by-side` just the processor time of an Enter and of a Confirm is measured, of two servers that run at the same time and get
-twenty commands each in turn, in alternating order: what the rest of the machine does then falls on both alike. The first four of twenty
-aren't counted, since they find what the other server left in the processor's caches. In a folder of a file system in memory, as /dev/shm, a
-sync costs nothing, so that is what a journal costs beside it, with the writes. Each round has two servers of its own.
+What a Confirm costs beside the sync benches/beside_the_sync.py says.
 """
-import itertools
 import json
 import multiprocessing
 import os
@@ -31,13 +25,11 @@ from journal_files import change, log_of  # noqa: E402
 from raw_client import Client, Server  # noqa: E402
 from write_stored_runs import text_of  # noqa: E402
 
-SIDE_BY_SIDE = "--side-by-side" in sys.argv
-WORDS = [word for word in sys.argv[1:] if word != "--side-by-side"]
+WORDS = sys.argv[1:]
 PROGRAM = WORDS[0] if WORDS else "crates/bridge_server/out/bridge_server"
 FOLDER = WORDS[1] if len(WORDS) > 1 else None
 SECONDS = float(WORDS[2]) if len(WORDS) > 2 else 2
 ROUNDS = 5
-IN_TURN, COLD = 20, 4
 OPENED = book_time.session()
 DEALS = OPENED.pop("pbn")
 ENTRIES = (2_000, 60_000)
@@ -120,39 +112,6 @@ def confirms(folder, kept):
         return [1e6 * statistics.mean(took[word]) for word in ("Enter", "Confirm")]
 
 
-def confirms_side_by_side(folder):
-    """Microseconds of processor time of an Enter and of a Confirm without a journal and with one, of two servers that get twenty commands each in turn."""
-    with server(None) as without, server(new_file(folder)) as kept:
-        places = [(at, signed_in(at), {"Enter": [], "Confirm": []}) for at in (without, kept)]
-        commands = list(itertools.islice(book_time.commands(), 5 * 2 * book_time.BOARDS))
-        for start in range(0, len(commands), IN_TURN):
-            for at, client, took in places if start // IN_TURN % 2 == 0 else reversed(places):
-                for place, (_, command) in enumerate(commands[start:start + IN_TURN]):
-                    before = spent(at.process)
-                    assert '"ok"' in client.ask({"do": [command]})
-                    if place >= COLD:
-                        took.setdefault(command["cmd"], []).append(1e6 * (spent(at.process) - before))
-    return [took for _, _, took in places]
-
-
-def tell_side_by_side(folder, rounds):
-    """A line a round and word: the means and the medians; then the same of all rounds."""
-    every = {"Enter": ([], []), "Confirm": ([], [])}
-    for count in range(rounds):
-        without, kept = confirms_side_by_side(folder)
-        for word, both in every.items():
-            tell_ratio(f"round {count + 1}, {word}", without[word], kept[word])
-            both[0].extend(without[word])
-            both[1].extend(kept[word])
-    for word, both in every.items():
-        tell_ratio(f"all rounds, {word}", *both)
-
-
-def tell_ratio(what, without, kept):
-    print(f"{what}: {statistics.mean(without):.1f} and {statistics.mean(kept):.1f} microseconds in the mean, {statistics.mean(kept) / statistics.mean(without):.3f} times; "
-          f"medians {statistics.median(without):.1f} and {statistics.median(kept):.1f}, {statistics.median(kept) / statistics.median(without):.3f} times", flush=True)
-
-
 def enter_batches(at, ends):
     """Enters batches one after another, a hundred a second. It is a process of its own: threads of one Python wait for one another."""
     writer = signed_in(at)
@@ -233,9 +192,6 @@ def in_turns(measure, *words):
 
 def main():
     with tempfile.TemporaryDirectory(dir=FOLDER) as folder:
-        if SIDE_BY_SIDE:
-            tell_side_by_side(folder, int(WORDS[2]) if len(WORDS) > 2 else ROUNDS)
-            return
         median, late = sync_time(folder)
         print(f"a write of 4,096 bytes is synced in {median:.0f} microseconds (the 99th of a hundred: {late:.0f})", flush=True)
         for size in (1, 8):
