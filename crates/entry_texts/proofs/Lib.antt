@@ -1,3 +1,4 @@
+pub mod ConfirmLemmas
 pub mod EntryLemmas
 pub mod ReadingLemmas
 pub mod UserLemmas

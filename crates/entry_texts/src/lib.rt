@@ -1,6 +1,7 @@
 //! An entry of a session as the two texts of a row, and what such texts tell.
 #![tactic(auto)]
 
+mod confirming;
 mod kept_entry;
 pub mod laws;
 mod reading;

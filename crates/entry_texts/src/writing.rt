@@ -6,6 +6,7 @@ ghost use Rattle.command_writing.specs.CommandData.{command_data};
 ghost use Rattle.command_writing.specs.Writable.{IsWritable};
 ghost use Rattle.entry_texts.specs.EntryTexts.{actor_text, command_text, texts_of_entry, texts_in, IsActor, IsKeepable};
 
+use crate::confirming::confirmed_text;
 use command_writing::command_value;
 use session_commands::{Actor, Command, Entry};
 use std::alloc::{AllocError, Global};
@@ -43,6 +44,18 @@ fn written_actor(alloc: Global, actor: &Actor) -> Result<String, AllocError>
 }
 
 fn written_command(alloc: Global, command: &Command) -> Result<String, AllocError>
+    ensures text { IfOk result (λ text. string_bytes text ≡ command_text command.now) }
+    ensures writable { IsWritable command.now }
+    ensures json { IfOk result (λ text. read (string_bytes text) ≡ Some (command_data command.now)) }
+{
+    match command {
+        Command::Confirm { cell, outcome } => confirmed_text(alloc, *cell, *outcome),
+        _ => value_text(alloc, command),
+    }
+}
+
+// By the tree of its values.
+fn value_text(alloc: Global, command: &Command) -> Result<String, AllocError>
     ensures text { IfOk result (λ text. string_bytes text ≡ command_text command.now) }
     ensures writable { IsWritable command.now }
     ensures json { IfOk result (λ text. read (string_bytes text) ≡ Some (command_data command.now)) }

@@ -5,7 +5,7 @@ use Rattle.serde_json.specs.Read.{max_depth}
 use Rattle.serde_json.specs.Written.{has_float, compact_text}
 use Rattle.std.proofs.Common.{Some}
 use Rattle.command_writing.proofs.DepthLemmas.{command_depth, command_whole}
-use Rattle.entry_texts.proofs.writing.written_command.Goals as goal
+use Rattle.entry_texts.proofs.writing.value_text.Goals as goal
 
 pub returns-clause-text : goal.returns-clause-text
 returns-clause-text c =
