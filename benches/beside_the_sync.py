@@ -1,12 +1,13 @@
 #!/usr/bin/env python3
 """Measures what a journal costs an Enter and a Confirm beside the sync: the server's processor time, less what it takes to write and to sync.
 
-    benches/beside_the_sync.py [PROGRAM] [FOLDER] [ROUNDS [IN_TURN]]
+    benches/beside_the_sync.py [PROGRAM] [FOLDER] [ROUNDS [SECONDS]]
 
 Two servers run at the same time, one without a journal and one whose journal lies in the folder, else in the system's for temporary files, and
-get as many commands each in turn (one, where none is said), in alternating order: what the rest of the machine does then falls on both alike.
-The session is that of benches/book_time.py: 16 tables, 64 boards, 256 accounts; a director enters and confirms the results of five
-rounds, each in a batch of its own. Each round of measuring has two servers of its own.
+get as many commands each in turn, in alternating order: what the rest of the machine does then falls on both alike. The session is that of
+benches/book_time.py: 16 tables, 64 boards, 256 accounts; of five rounds of play a director enters all 64 results, and then confirms them,
+each in a batch of its own, one after another, or with so many seconds between them. Each 64 are measured together, so that looking at the
+clock disturbs none of them. Each round of measuring has two servers of its own.
 
 Processor time is the system's (Linux's schedstat) of the program's whole. What the sync is of it a library counts that is loaded under
 the program (LD_PRELOAD): the processor time of the thread in its calls of pwrite, fdatasync and fsync, of which a server makes none without a
@@ -20,6 +21,7 @@ import struct
 import subprocess
 import sys
 import tempfile
+import time
 
 ROOT = pathlib.Path(__file__).resolve().parent.parent
 sys.path[:0] = [*(str(ROOT / "tests" / folder) for folder in ("drivers", "runs")), str(ROOT / "benches")]
@@ -31,7 +33,7 @@ WORDS = sys.argv[1:]
 PROGRAM = WORDS[0] if WORDS else "crates/bridge_server/out/bridge_server"
 FOLDER = WORDS[1] if len(WORDS) > 1 else None
 ROUNDS = int(WORDS[2]) if len(WORDS) > 2 else 12
-IN_TURN = int(WORDS[3]) if len(WORDS) > 3 else 1
+PAUSE = float(WORDS[3]) if len(WORDS) > 3 else 0
 OPENED = book_time.session()
 DEALS = OPENED.pop("pbn")
 COUNTING = r"""
@@ -82,21 +84,25 @@ class Measured:
         nanoseconds, calls = struct.unpack("QQ", self.counts.read_bytes())
         return 1e6 * spent(self.server.process), nanoseconds / 1e3, calls
 
-    def does(self, command):
+    def do_all(self, word, commands):
+        """Does commands of one kind one after another, and notes what one of them took in the mean."""
         before = self.so_far()
-        assert '"ok"' in self.client.ask({"do": [command]})
-        self.took.setdefault(command["cmd"], []).append([after - earlier for after, earlier in zip(self.so_far(), before)])
+        for command in commands:
+            assert '"ok"' in self.client.ask({"do": [command]})
+            if PAUSE:
+                time.sleep(PAUSE)
+        self.took.setdefault(word, []).append([(after - earlier) / len(commands) for after, earlier in zip(self.so_far(), before)])
 
 
 def measured(room, library):
     """What the commands of five rounds took without a journal and with one."""
     both = [Measured(room, "without", library), Measured(room, "kept", library, "--journal", pathlib.Path(room, "kept.journal"))]
     with both[0].server, both[1].server:
-        commands = list(itertools.islice(book_time.commands(), 5 * 2 * book_time.BOARDS))
-        for start in range(0, len(commands), IN_TURN):
-            for it in both if start // IN_TURN % 2 == 0 else reversed(both):
-                for _, command in commands[start:start + IN_TURN]:
-                    it.does(command)
+        commands = [command for _, command in itertools.islice(book_time.commands(), 5 * 2 * book_time.BOARDS + 4)]
+        for turn, (word, alike) in enumerate(itertools.groupby(commands, lambda command: command["cmd"])):
+            alike = list(alike)
+            for it in both if turn % 4 < 2 else reversed(both):
+                it.do_all(word, alike)
     return [it.took for it in both]
 
 
