@@ -9,7 +9,7 @@ ghost use Rattle.called_program.specs.Reported.{IsReport, form_text};
 
 use crate::serving_fault::status_of_source_fault;
 use journal_store::JournalFiles;
-use kept_sessions::{KeptSessionFault, report_of_journal};
+use kept_sessions::{KeptSessionFault, ReportedJournal, left_of_journal, report_of_journal};
 use operator_lines::{Obstacle, status_of_obstacle};
 use pbn_report::pbn_text;
 use report_texts::{csv_text, html_text};
@@ -59,11 +59,17 @@ fn report_text<R: Files + Threads + JournalFiles + AllocGlobal + Sync>(
 ) -> Result<Vec<u8>, KeptSessionFault>
     ensures { IfOk result (λ text. IsReport reporting.now.form text.items) }
 {
-    let reported = match report_of_journal(rt, reporting.journal, Wary, WORKERS) {
+    let ReportedJournal { report, store } = match report_of_journal(
+        rt,
+        reporting.journal,
+        Wary,
+        WORKERS,
+    ) {
         Ok(reported) => reported,
         Err((fault, _left)) => return Err(fault),
     };
-    match form_text(rt.alloc(), reporting.form, &reported.report) {
+    drop(left_of_journal(store));
+    match form_text(rt.alloc(), reporting.form, &report) {
         Ok(text) => Ok(text),
         Err(_) => Err(KeptSessionFault::OutOfMemory),
     }

@@ -14,6 +14,7 @@ use mio::event::Event;
 use mio::unix::SourceFd;
 use mio::{Events, Interest, Poll};
 use std::alloc::Global;
+use std::hash::RandomState;
 use std::io::{ErrorKind, Read, Write};
 use std::net::{OpenListener, OpenStream};
 use std::os::fd::{AsRawFd, RawFd};
@@ -283,20 +284,26 @@ where
         }
         self.askers.make_room();
         let fd = stream.as_raw_fd();
-        let http = Connection::new(self.alloc, self.plan.keys, http_config());
-        let Ok(http) = Box::new(self.alloc, http) else {
+        let Some(http) = new_connection(self.alloc, self.plan.keys) else {
             return;
         };
-        if let Some(key) = self.askers.insert(Asker::new(http, stream, self.now)) {
-            let registered = self.poll.registry().register(
+        if let Some(key) = self.askers.insert(Asker::new(http, stream, self.now))
+            && !self.register_asker(fd, key)
+        {
+            self.askers.end(key);
+        }
+    }
+
+    // The descriptor of a client who asks is reported by its key. Answers whether the system took that.
+    fn register_asker(&self, fd: RawFd, key: usize) -> bool {
+        self.poll
+            .registry()
+            .register(
                 &mut SourceFd(&fd),
                 Source::Asker(key).token(),
                 Interest::READABLE | Interest::WRITABLE,
-            );
-            if registered.is_err() {
-                self.askers.end(key);
-            }
-        }
+            )
+            .is_ok()
     }
 
     /// Tells the other threads how many clients there are here.
@@ -317,6 +324,11 @@ where
     pub(crate) fn is_over(&self, talkers: usize) -> bool {
         !self.askers.is_open() && talkers == 0 && self.askers.is_empty()
     }
+}
+
+// A connection over HTTP that has read nothing, if there is memory for it.
+fn new_connection(alloc: Global, keys: RandomState) -> Option<Box<Connection>> {
+    Box::new(alloc, Connection::new(alloc, keys, http_config())).ok()
 }
 
 fn http_config() -> Config {

@@ -12,7 +12,7 @@ ghost use Rattle.kept_sessions.specs.Faults.{AreCleanlyLeft, WhyJournalNotTold};
 ghost use Rattle.kept_sessions.specs.declared.source_fault.KeptSessionFault.TheVariants.{NotAccepted, OutOfMemory};
 
 use crate::journal_session::{KeptSession, kept_session};
-use crate::left_files::left_of;
+use crate::left_files::left_of_journal;
 use crate::source_fault::KeptSessionFault;
 use journal_store::JournalFiles;
 use row_journal::{OpenedJournal, RowJournal};
@@ -56,7 +56,7 @@ pub fn audit_of_journal<R: Files + Threads + JournalFiles + AllocGlobal + Sync, 
     } = journal;
     match audit_of_publications(rt.alloc(), session.book, publications.as_slice()) {
         Ok(audit) => Ok(ToldJournal { audit, store }),
-        Err(fault) => Err((fault, Some(left_of(store.into_connection())))),
+        Err(fault) => Err((fault, Some(left_of_journal(store)))),
     }
 }
 

@@ -5,19 +5,19 @@ ghost use Rattle.kept_sessions.specs.Faults.{IsFailedCopy};
 
 use crate::source_fault::KeptSessionFault;
 use journal_store::close_journal;
-use row_journal::{JournalFault, fault_of_file};
-use sqlite::{Connection, FileStore};
+use row_journal::{FoundJournal, JournalFault, fault_of_file};
+use sqlite::FileStore;
 use sqlite_disk::Disk;
 use std::alloc::Global;
 
 /// All bytes of a journal's file, once its log is in it.
 pub(crate) fn bytes_of_closed<D: Disk + Drop>(
     alloc: Global,
-    conn: Connection<FileStore<D>>,
+    found: FoundJournal<FileStore<D>>,
 ) -> Result<Vec<u8>, KeptSessionFault>
     ensures { IfErr result IsFailedCopy }
 {
-    match close_journal(conn) {
+    match close_journal(found.into_connection()) {
         Ok(mut files) => bytes_of(alloc, &mut files.db),
         Err(fault) => Err(KeptSessionFault::Journal(fault_of_file(fault))),
     }

@@ -8,9 +8,9 @@ use crate::closed_journal::bytes_of_closed;
 use crate::paths::may_hold_database;
 use crate::source_fault::KeptSessionFault;
 use journal_store::JournalFiles;
-use row_journal::open_kept_journal;
+use row_journal::{FoundJournal, open_kept_journal};
 use script_lines::write_text;
-use sqlite::{Connection, FileFrom, FileStore, Leftover, Start};
+use sqlite::{FileFrom, FileStore, Leftover, Start};
 use sqlite_disk::Disk;
 use std::fs::{File, OpenFile};
 use std::io::{ErrorKind, Write};
@@ -31,25 +31,25 @@ pub fn copy_journal<R: Files + JournalFiles + AllocGlobal, S: Start>(
         Ok(false) => return Err((KeptSessionFault::NoJournal, None)),
         Err(fault) => return Err((KeptSessionFault::Journal(fault), None)),
     }
-    let conn = match open_kept_journal(rt, path, start) {
-        Ok((_session, found)) => found.into_connection(),
+    let found = match open_kept_journal(rt, path, start) {
+        Ok((_session, found)) => found,
         Err((fault, left)) => return Err((KeptSessionFault::Journal(fault), left)),
     };
-    match copy_closed(rt, conn, to) {
+    match copy_closed(rt, found, to) {
         Ok(()) => Ok(()),
         Err(fault) => Err((fault, None)),
     }
 }
 
-// Copies a journal that is closed to a path where nothing is yet.
+// Closes a journal, and copies it to a path where nothing is yet.
 fn copy_closed<R: Files + AllocGlobal, D: Disk + Drop>(
     rt: &R,
-    conn: Connection<FileStore<D>>,
+    found: FoundJournal<FileStore<D>>,
     to: &str,
 ) -> Result<(), KeptSessionFault>
     ensures { IfErr result IsFailedCopy }
 {
-    match bytes_of_closed(rt.alloc(), conn) {
+    match bytes_of_closed(rt.alloc(), found) {
         Ok(bytes) => write_new(rt, to, bytes.as_slice()),
         Err(fault) => Err(fault),
     }

@@ -11,7 +11,7 @@ ghost use Rattle.kept_sessions.specs.Faults.{AreCleanlyLeft, IsRowsFault, WhyFil
 ghost use Rattle.kept_sessions.specs.Sources.{AreOfFiles};
 ghost use Rattle.kept_sessions.specs.Kept.{IsKeptSession, IsTakenSession, KeepsJust};
 
-use crate::left_files::left_of;
+use crate::left_files::left_of_found;
 use crate::paths::{may_hold_database, texts_of_files};
 use crate::source_fault::KeptSessionFault;
 use crate::source_texts::SourceTexts;
@@ -21,6 +21,7 @@ use opened_session::{OpenedSession, OpeningFault};
 use row_journal::{FoundJournal, OpenedJournal, open_kept_journal, open_row_journal};
 use session_object::SessionFault;
 use sqlite::{Alter, FileFrom, FileStore, Leftover, Start};
+use sqlite_disk::Disk;
 use std::rt::Files;
 use std::str;
 use std::thread::Threads;
@@ -118,7 +119,7 @@ pub fn kept_session<R: Files + JournalFiles + Threads + AllocGlobal + Sync, S: S
     };
     match session_of_texts(rt.alloc(), texts.object.as_bytes(), texts.boards.as_slice()) {
         Ok(session) => with_journal(rt, session, found, workers),
-        Err(fault) => Err((fault, Some(left_of(found.into_connection())))),
+        Err(fault) => Err((fault, Some(left_of_found(found)))),
     }
 }
 
@@ -148,12 +149,12 @@ pub(crate) fn kept_texts<R: Files + JournalFiles, S: Start>(
 }
 
 /// A session with the journal of it that was found, once that is read.
-pub(crate) fn with_journal<R: Threads + AllocGlobal + Sync, S: Start>(
+pub(crate) fn with_journal<R: Threads + AllocGlobal + Sync, D: Disk + Drop>(
     rt: &R,
     session: OpenedSession,
-    found: FoundJournal<FileStore<FileFrom<S>>>,
+    found: FoundJournal<FileStore<D>>,
     workers: usize,
-) -> Result<KeptSession<FileStore<FileFrom<S>>>, (KeptSessionFault, Option<Leftover<FileFrom<S>>>)>
+) -> Result<KeptSession<FileStore<D>>, (KeptSessionFault, Option<Leftover<D>>)>
     ensures read { IfOk result (λ kept. (kept.session ≡ session) × (kept.journal.store.conn ≡ found.conn)
         × (map texts_of found.rows ≡ rows_of (lists_in kept.journal.publications.items))) }
     ensures leaves { IfOk result (λ kept. KeepsJust (file_state kept.journal.store.conn)
@@ -166,7 +167,10 @@ pub(crate) fn with_journal<R: Threads + AllocGlobal + Sync, S: Start>(
         Ok(journal) => Ok(KeptSession { session, journal }),
         Err((fault, conn)) => {
             drop(session);
-            Err((KeptSessionFault::Journal(fault), Some(left_of(conn))))
+            Err((
+                KeptSessionFault::Journal(fault),
+                Some(Leftover::Store(conn.into_store())),
+            ))
         }
     }
 }

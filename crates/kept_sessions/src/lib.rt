@@ -19,6 +19,7 @@ pub use copying::copy_journal;
 pub use journal_session::{
     KeptSession, kept_session, kept_session_of_files, kept_session_of_texts,
 };
+pub use left_files::left_of_journal;
 pub use paths::{session_of_files, texts_of_files};
 pub use reporting::{ReportedJournal, report_of_journal};
 pub use source_fault::{KeptSessionFault, SessionFile};

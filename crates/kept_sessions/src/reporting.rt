@@ -15,7 +15,7 @@ ghost use Rattle.kept_sessions.specs.Reported.{IsReportOfJournal, IsReportOfSess
 
 use crate::auditing::fault_of;
 use crate::journal_session::{KeptSession, kept_texts, with_journal};
-use crate::left_files::left_of;
+use crate::left_files::{left_of_found, left_of_journal};
 use crate::memberships::memberships_of_texts;
 use crate::source_fault::KeptSessionFault;
 use crate::texts_session::session_of_texts;
@@ -63,13 +63,13 @@ pub fn report_of_journal<R: Files + Threads + JournalFiles + AllocGlobal + Sync,
     let boards = texts.boards.as_slice();
     let session = match session_of_texts(rt.alloc(), object, boards) {
         Ok(session) => session,
-        Err(fault) => return Err((fault, Some(left_of(found.into_connection())))),
+        Err(fault) => return Err((fault, Some(left_of_found(found)))),
     };
     let memberships = match memberships_of_texts(rt.alloc(), object, boards) {
         Ok(memberships) => memberships,
         Err(fault) => {
             drop(session);
-            return Err((fault, Some(left_of(found.into_connection()))));
+            return Err((fault, Some(left_of_found(found))));
         }
     };
     let KeptSession { session, journal } = match with_journal(rt, session, found, workers) {
@@ -83,7 +83,7 @@ pub fn report_of_journal<R: Files + Threads + JournalFiles + AllocGlobal + Sync,
     let entered = publications.as_slice();
     match report_of_publications(rt.alloc(), session.book, memberships.as_slice(), entered) {
         Ok(report) => Ok(ReportedJournal { report, store }),
-        Err(fault) => Err((fault, Some(left_of(store.into_connection())))),
+        Err(fault) => Err((fault, Some(left_of_journal(store)))),
     }
 }
 

@@ -8,8 +8,4 @@ returns-in-Ok-write_text-clause-silent g c = λ _. Appends-nil (g.E.Write.conten
 
 pub returns-in-Ok-clause-part : goal.returns-in-Ok-clause-part
 returns-in-Ok-clause-part g c = λ _.
-    inr (
-      string_bytes c.in-Ok.told.audit,
-      c.in-Ok.ensures.told,
-      rw c.as_bytes.ensures.value at c.in-Err-write_text.ensures.part,
-    )
+    inr (string_bytes c.in-Ok.audit, c.in-Ok.ensures, rw c.as_bytes.ensures.value at c.in-Err-write_text.ensures.part)

@@ -1,7 +1,5 @@
-use Rattle.std.proofs.Common.{Some, subst}
+use Rattle.std.proofs.Common.{Some}
 use Rattle.sqlite.specs.Files.{file_state}
-use Rattle.sqlite.specs.Held.{Held}
-use Rattle.sqlite.specs.State.{HasCleanDisk}
 use Rattle.sqlite.specs.WalFiles.{image_at}
 use Rattle.kept_entries.specs.KeptRows.{lists_in}
 use Rattle.kept_sessions.proofs.FaultLemmas.{entries_not_told, not_reopened_told}
@@ -35,8 +33,6 @@ returns-clause-why g c = λ clean.
     let journal = c.in-Ok.kept.journal in
     let publications = lists_in journal.publications.items in
     let kept = c.in-Ok.ensures.kept in
-    let was = subst (λ (conn : Held _). HasCleanDisk (file_state conn)) c.into_connection.ensures.conn
-    (c.left_of.ensures clean) in
     entries_not_told (image_at g.S.Start) kept.object kept.boards session.book.opening session.book.journal session.budget
-    publications (Some c.left_of.result) c.in-Err-audit_of_publications.fault kept.session (kept.kept was).found
+    publications (Some c.left_of_journal.result) c.in-Err-audit_of_publications.fault kept.session (kept.kept (c.left_of_journal.ensures clean)).found
     (rw c.as_slice.ensures.value at c.in-Err-audit_of_publications.ensures.fault)

@@ -2,8 +2,6 @@ use Rattle.std.proofs.Common.{Some, ap, sym, subst, ◌∷◌, [], map}
 use Rattle.std.specs.Prelude.{string_bytes}
 use Rattle.std.proofs.lemmas.Result.{IfOk-weaker, IfErr-weaker}
 use Rattle.sqlite.specs.Files.{file_state}
-use Rattle.sqlite.specs.Held.{Held}
-use Rattle.sqlite.specs.State.{HasCleanDisk}
 use Rattle.sqlite.specs.WalFiles.{image_at}
 use Rattle.journal_store.specs.Kept.{texts_of, row_of_session}
 use Rattle.kept_entries.specs.KeptRows.{lists_in, rows_of}
@@ -42,7 +40,6 @@ pub returns-clause-why : goal.returns-clause-why
 returns-clause-why g c = λ clean.
     let texts = c.in-Ok.kept.0 in
     let found = c.in-Ok.kept.1 in
-    let was = subst (λ (conn : Held _). HasCleanDisk (file_state conn)) c.into_connection.ensures (c.left_of.ensures clean) in
     texts_not_reopened (image_at g.S.Start) (string_bytes texts.object) texts.boards.items (map texts_of found.rows)
-    (Some c.left_of.result) c.in-Err-session_of_texts.fault (c.in-Ok.ensures.opens was).found
+    (Some c.left_of_found.result) c.in-Err-session_of_texts.fault (c.in-Ok.ensures.opens (c.left_of_found.ensures clean)).found
     (rw (c.as_bytes.ensures.value, c.as_slice.ensures.value) at c.in-Err-session_of_texts.ensures.why)

@@ -1,8 +1,6 @@
 use Rattle.std.proofs.Common.{Some, ap, inl, inr, sym, subst, ◌∷◌, [], map}
 use Rattle.std.specs.Prelude.{string_bytes}
 use Rattle.sqlite.specs.Files.{file_state}
-use Rattle.sqlite.specs.Held.{Held}
-use Rattle.sqlite.specs.State.{HasCleanDisk}
 use Rattle.sqlite.specs.WalFiles.{image_at}
 use Rattle.history.specs.Prefixes.{entries_of}
 use Rattle.journal_store.specs.Kept.{texts_of, row_of_session}
@@ -66,11 +64,10 @@ returns-in-Err-session_of_texts-clause-why g c = λ clean.
     let texts = c.in-Ok.kept.0 in
     let found = c.in-Ok.kept.1 in
     let fault = c.in-Err-session_of_texts.fault in
-    let was = subst (λ (conn : Held _). HasCleanDisk (file_state conn)) c.into_connection.ensures (c.left_of.ensures clean) in
-    not_reopened_told (image_at g.S.Start) (Some c.left_of.result) fault
-    (texts_not_reopened (image_at g.S.Start) (string_bytes texts.object) texts.boards.items (map texts_of found.rows)
-    (Some c.left_of.result) fault
-    (c.in-Ok.ensures.opens was).found
+    let left = Some c.left_of_found.result in
+    not_reopened_told (image_at g.S.Start) left fault
+    (texts_not_reopened (image_at g.S.Start) (string_bytes texts.object) texts.boards.items (map texts_of found.rows) left fault
+    (c.in-Ok.ensures.opens (c.left_of_found.ensures clean)).found
     (rw (c.as_bytes-object.ensures.value, c.as_slice-boards.ensures.value) at c.in-Err-session_of_texts.ensures.why))
 
 pub returns-in-Err-memberships_of_texts-clause-why : goal.returns-in-Err-memberships_of_texts-clause-why
@@ -78,13 +75,13 @@ returns-in-Err-memberships_of_texts-clause-why g c = λ clean.
     let texts = c.in-Ok.kept.0 in
     let found = c.in-Ok.kept.1 in
     let fault = c.in-Err-memberships_of_texts.fault in
-    let left = Some c.left_of-in-Err-memberships_of_texts.result in
-    let was = subst (λ (conn : Held _). HasCleanDisk (file_state conn)) c.into_connection-in-Err-memberships_of_texts.ensures (c.left_of-in-Err-memberships_of_texts.ensures clean) in
+    let left = Some c.left_of_found-in-Err-memberships_of_texts.result in
     elim c.in-Err-memberships_of_texts.ensures.why [
       | inl memory ↦ subst (WhyJournalNotTold (image_at g.S.Start) left) (sym memory) tt
       | inr why ↦ not_reopened_told (image_at g.S.Start) left fault
           (texts_not_reopened (image_at g.S.Start) (string_bytes texts.object) texts.boards.items (map texts_of found.rows) left fault
-          (c.in-Ok.ensures.opens was).found (rw (c.as_bytes-object.ensures.value, c.as_slice-boards.ensures.value) at why))
+          (c.in-Ok.ensures.opens (c.left_of_found-in-Err-memberships_of_texts.ensures clean)).found
+          (rw (c.as_bytes-object.ensures.value, c.as_slice-boards.ensures.value) at why))
     ]
 
 pub returns-in-Err-with_journal-clause-why : goal.returns-in-Err-with_journal-clause-why
@@ -110,11 +107,9 @@ returns-clause-why g c = λ clean.
     let of_texts : IsSessionOf object boards opened.book.opening opened.book.journal opened.budget =
     rw (c.as_bytes-object.ensures.value, c.as_slice-boards.ensures.value) at c.in-Ok-session_of_texts.ensures.session in
     let session = subst (λ s. IsSessionOf object boards s.book.opening s.book.journal s.budget) (sym read.0) of_texts in
-    let was = subst (λ (conn : Held _). HasCleanDisk (file_state conn)) c.into_connection-in-Err-report_of_publications.ensures.conn
-    (c.left_of-in-Err-report_of_publications.ensures clean) in
     let held = kept_as _ (row_of_session texts ∷ []) (map texts_of found.rows) (rows_of publications) (file_state found.conn)
     (file_state kept.journal.store.conn) (ap (λ conn. file_state conn) read.1) read.2 c.in-Ok.ensures.opens in
     entries_not_told (image_at g.S.Start) object boards kept.session.book.opening kept.session.book.journal
-    kept.session.budget publications (Some c.left_of-in-Err-report_of_publications.result)
-    c.in-Err-report_of_publications.fault session (held was).found
+    kept.session.budget publications (Some c.left_of_journal.result)
+    c.in-Err-report_of_publications.fault session (held (c.left_of_journal.ensures clean)).found
     (rw c.as_slice-entered.ensures.value at c.in-Err-report_of_publications.ensures.fault)
