@@ -2,5 +2,7 @@
 #![tactic(auto)]
 
 mod collecting;
+mod thread;
 
 pub use collecting::collect;
+pub use thread::Collect;

@@ -2,7 +2,6 @@
 //! find is entered beside them.
 #![tactic(auto)]
 
-mod analysing_keeper;
 mod announcement;
 mod serving;
 mod tasks;

@@ -1,32 +1,30 @@
 //! Serving a session in threads, from its book to the end of the last of them.
 //!
-//! On a way out at a fault a book, a view, a display or a desk is dropped by name: that is one call, where it would otherwise be
-//! dropped there field by field, each a step of the proof.
+//! What serves at a port knows of who keeps the session by a bound alone (`ClientKeeper`, `Task`), so that no proof there works out
+//! the book, its lock or its copies.
 
-ghost use Rattle.std.specs.Prelude.{◌≡◌, ◌⊎◌, List, [], All, map, IfOk, OnErr};
+ghost use Rattle.std.specs.Prelude.{◌≡◌, ◌⊎◌, List, [], map, IfOk, OnErr};
 ghost use Rattle.session_commands.specs.declared.entry.Entry.{Entry};
 ghost use Rattle.displays.specs.Copies.{IsPublished};
-ghost use Rattle.displays.specs.Publishing.{nothing_outgoing};
 ghost use Rattle.desks.specs.Kept.{IsKeptBy, LeavesJust};
 ghost use Rattle.desks.specs.Places.{IsTallyOf};
 
 use crate::announcement::Announcement;
-use crate::tasks::{Collect, Hall, ServeClients};
-use crossbeam_channel::Receiver;
-use desks::{DeskPlaces, ReentryFault, Shared, new_tally, reenter_all};
-use displays::{Display, OpenError, Publisher, Server, open_displays};
+use crate::tasks::{ClientKeeper, Hall, ServeClients};
+use collector::Collect;
+use desks::new_tally;
+use displays::Server;
 use entry_store::EntryStore;
 use event_log::SharedLog;
 use hall_door::Room;
 use hall_threads::{HallPlan, HallWatch, WatchError};
 use history::History;
 use page_answers::PageAnswers;
-use published_view::View;
 use service_threads::{Task, run_tasks};
 use session_book::Book;
 use session_commands::Entry;
-use session_jobs::{CloseQueue, JobQueue, Solve, workers_of};
-use solver_pool::Done;
+use session_jobs::{CloseQueue, JobQueue, workers_of};
+use shared_session::{SessionDesks, SharedSession, SharingFault, desks_of, share_session};
 use std::alloc::Global;
 use std::fmt;
 use std::hash::RandomState;
@@ -41,13 +39,6 @@ use std::thread::Threads;
 use std::time::Clock;
 use thiserror::Error;
 use websocket_server::listen;
-
-// What the threads of a session do.
-type Crew<'a, N, K, L> = (
-    Collect<'a, N, K>,
-    Vec<Solve<'a>>,
-    Vec<ServeClients<'a, N, K, L>>,
-);
 
 // How many bytes the stack of each thread has.
 const STACK: usize = 1_048_576;
@@ -185,35 +176,30 @@ where
     ensures unannounced { OnErr result ((errors.new ≡ errors.old)
         ⊎ A.tells announcement.now (E.contents errors.old) (E.contents errors.new)) }
 {
-    let (publisher, displays) = match open_views::<N, R>(rt, alloc, &book, history, plan.displays) {
-        Ok(opened) => opened,
-        Err(error) => {
-            drop(book);
-            return Err(error);
-        }
-    };
-    let (shared, places) = share::<N, R, K>(
+    let opened = share_session::<N, R, K>(
         rt,
         alloc,
         book,
-        publisher,
-        store,
+        history,
         tally,
+        store,
         publications,
-        queue,
-        plan.workers,
-    )?;
-    let served = serve_shared(
-        rt,
-        alloc,
-        &shared,
+        queue_of(queue, plan.workers),
+        plan.displays,
+    );
+    let SharedSession {
+        shared,
         places,
         displays,
-        queue,
-        plan,
-        announcement,
-        errors,
-    );
+    } = match opened {
+        Ok(session) => session,
+        Err(fault) => return Err(not_shared(fault)),
+    };
+    let solving = queue_of(queue, plan.workers);
+    let served = match desks_of(alloc, &shared, places, displays, solving, plan.log) {
+        Ok(desks) => serve_desks(rt, alloc, desks, queue, plan, announcement, errors),
+        Err(fault) => Err(not_shared(fault)),
+    };
     let store = shared.close(rt);
     match served {
         Ok(()) => Ok(store),
@@ -221,83 +207,17 @@ where
     }
 }
 
-// The publisher of a book in which nothing is entered yet, and so many displays.
-fn open_views<N: Server, R: Wait>(
-    rt: &R,
-    alloc: Global,
-    book: &Book,
-    history: History,
-    displays: u8,
-) -> Result<(Publisher<N>, Vec<Display<N>>), ServingError>
-    requires journal { book.now.journal ≡ [] }
-    requires opening { book.now.opening ≡ N.opening }
-    requires history { history ≡ N.history }
-    ensures publisher { IfOk result (λ t. t.0 ≡ nothing_outgoing) }
-    ensures displays { IfOk result (λ t. All (λ display. display ≡ []) t.1.items) }
-{
-    let first = match View::open(alloc, book) {
-        Ok(view) => view,
-        Err(_) => return Err(ServingError::OutOfMemory),
-    };
-    let second = match View::open(alloc, book) {
-        Ok(view) => view,
-        Err(_) => {
-            drop(first);
-            return Err(ServingError::OutOfMemory);
-        }
-    };
-    match open_displays::<N, R>(rt, alloc, history, first, second, displays as usize) {
-        Ok(opened) => Ok(opened),
-        Err(OpenError::NoPlace) => Err(ServingError::NoPlace),
-        Err(OpenError::OutOfMemory) => Err(ServingError::OutOfMemory),
-    }
-}
-
-// Enters what a store keeps, and puts all of it under a lock. What is left to find is queued, if there are workers.
-fn share<N: Server, R: Wait, K: EntryStore>(
-    rt: &R,
-    alloc: Global,
-    mut book: Book,
-    mut publisher: Publisher<N>,
-    store: K,
-    tally: Blank,
-    publications: Vec<Vec<Entry>>,
-    queue: &JobQueue,
-    workers: u8,
-) -> Result<(Shared<N, K>, DeskPlaces<N>), ServingError>
-    requires journal { book.journal ≡ [] }
-    requires opening { book.opening ≡ N.opening }
-    requires publisher { publisher ≡ nothing_outgoing }
-    requires tally { IsTallyOf N.name N.parts tally.name tally.parts }
-    requires kept { LeavesJust (map (λ publication. publication.items) publications.items) (K.doubt store) (K.leaves store) }
-{
-    match reenter_all(rt, &mut book, &mut publisher, publications.as_slice()) {
-        Ok(()) => {
-            if workers > 0 {
-                queue.add_left(rt, book.state());
-            }
-            Ok(Shared::new(alloc, book, publisher, store, tally))
-        }
-        Err((number, fault)) => {
-            publisher.close(rt);
-            drop(book);
-            Err(not_reentered(number, fault))
-        }
-    }
-}
-
-// Why nothing is served where an entry isn't entered again.
-fn not_reentered(number: usize, fault: ReentryFault) -> ServingError {
+// Why nobody is served where a session isn't shared.
+fn not_shared(fault: SharingFault) -> ServingError {
     match fault {
-        ReentryFault::OutOfMemory => ServingError::OutOfMemory,
-        ReentryFault::Refused(_) | ReentryFault::Empty => {
-            ServingError::NotAccepted(u32::try_from(number).unwrap_or(u32::MAX))
-        }
+        SharingFault::OutOfMemory => ServingError::OutOfMemory,
+        SharingFault::NoPlace => ServingError::NoPlace,
+        SharingFault::NotAccepted(number) => ServingError::NotAccepted(number),
     }
 }
 
-// Serves a session that threads share, at a port.
-fn serve_shared<
+// Serves a session at its desks: what the workers find is entered at one, and what clients enter at the others.
+fn serve_desks<
     N: Server + Send + Sync,
     R: Threads + Wait + Clock + Net + Sync,
     K: EntryStore + Send,
@@ -306,9 +226,7 @@ fn serve_shared<
 >(
     rt: &R,
     alloc: Global,
-    shared: &Shared<N, K>,
-    places: DeskPlaces<N>,
-    displays: Vec<Display<N>>,
+    desks: SessionDesks<'_, N, K>,
     queue: &JobQueue,
     plan: ServingPlan<'_>,
     announcement: &A,
@@ -317,7 +235,63 @@ fn serve_shared<
 where
     R::Listener: Sync,
     R::Stream: Send,
-    requires { All (λ display. display ≡ []) displays.items }
+    ensures announced { IfOk result (λ _. A.tells announcement.now (E.contents errors.old) (E.contents errors.new)) }
+    ensures unannounced { OnErr result ((errors.new ≡ errors.old)
+        ⊎ A.tells announcement.now (E.contents errors.old) (E.contents errors.new)) }
+{
+    let SessionDesks {
+        keepers,
+        collecting,
+    } = desks;
+    let (workers, results) = match workers_of(alloc, queue, plan.budget, plan.log.is_some()) {
+        Ok(opened) => opened,
+        Err(_) => {
+            drop(keepers);
+            drop(collecting);
+            return Err(ServingError::OutOfMemory);
+        }
+    };
+    let collector = Collect {
+        desk: collecting,
+        queue,
+        results,
+        log: plan.log,
+    };
+    serve_port(
+        rt,
+        alloc,
+        collector,
+        workers,
+        keepers,
+        queue,
+        plan,
+        announcement,
+        errors,
+    )
+}
+
+// Serves at a port: one task takes in what the workers find, and each keeper has clients of its own.
+fn serve_port<
+    R: Threads + Wait + Clock + Net + Sync,
+    C: Task + Send + Drop,
+    W: Task + Send + Drop,
+    Q: ClientKeeper + Send,
+    A: Announcement,
+    E: Write,
+>(
+    rt: &R,
+    alloc: Global,
+    collector: C,
+    workers: Vec<W>,
+    keepers: Vec<Q>,
+    queue: &JobQueue,
+    plan: ServingPlan<'_>,
+    announcement: &A,
+    errors: &mut E,
+) -> Result<(), ServingError>
+where
+    R::Listener: Sync,
+    R::Stream: Send,
     ensures announced { IfOk result (λ _. A.tells announcement.now (E.contents errors.old) (E.contents errors.new)) }
     ensures unannounced { OnErr result ((errors.new ≡ errors.old)
         ⊎ A.tells announcement.now (E.contents errors.old) (E.contents errors.new)) }
@@ -325,8 +299,8 @@ where
     let listener = open_port(rt, plan.address)?;
     let room = Room::new(plan.clients);
     let crowd = AtomicUsize::new(0);
-    let hall = hall_of(alloc, &listener, &room, &crowd, queue, plan);
-    let (collector, workers, serving) = crew_of(rt, &hall, shared, places, displays, queue, plan)?;
+    let hall = hall_of(alloc, &listener, &room, &crowd, plan);
+    let serving = servers(rt, &hall, keepers)?;
     launch(rt, collector, workers, serving, queue, announcement, errors)
 }
 
@@ -336,13 +310,11 @@ fn hall_of<'a, L: OpenListener>(
     listener: &'a L,
     room: &'a Room,
     crowd: &'a AtomicUsize,
-    queue: &'a JobQueue,
     plan: ServingPlan<'a>,
 ) -> Hall<'a, L> {
     Hall {
         alloc,
         listener,
-        queue: queue_of(queue, plan.workers),
         page: plan.page,
         plan: HallPlan {
             connections: plan.connections,
@@ -395,97 +367,33 @@ fn launch<
     }
 }
 
-// What the threads do: the one that takes in what the workers find, the workers', and the displays'.
-fn crew_of<'a, N: Server, K: EntryStore, R: Net + Clock, L: OpenListener + AsRawFd>(
-    rt: &R,
-    hall: &'a Hall<'a, L>,
-    shared: &'a Shared<N, K>,
-    mut places: DeskPlaces<N>,
-    displays: Vec<Display<N>>,
-    queue: &'a JobQueue,
-    plan: ServingPlan<'_>,
-) -> Result<Crew<'a, N, K, L>, ServingError>
-    requires { All (λ display. display ≡ []) displays.items }
-{
-    let Ok((workers, results)) = workers_of(hall.alloc, queue, plan.budget, plan.log.is_some())
-    else {
-        return Err(ServingError::OutOfMemory);
-    };
-    let collector = collector_of(shared, &mut places, queue, results, hall.log)?;
-    match servers(rt, hall, shared, &mut places, displays) {
-        Ok(serving) => Ok((collector, workers, serving)),
-        Err(error) => {
-            drop(collector);
-            Err(error)
-        }
-    }
-}
-
-// What the thread does that takes in what the workers find, at a desk of its own.
-fn collector_of<'a, N: Server, K: EntryStore>(
-    shared: &'a Shared<N, K>,
-    places: &mut DeskPlaces<N>,
-    queue: &'a JobQueue,
-    results: Receiver<Done>,
-    log: Option<&'a SharedLog>,
-) -> Result<Collect<'a, N, K>, ServingError> {
-    let Some(place) = places.take() else {
-        return Err(ServingError::NoPlace);
-    };
-    Ok(Collect {
-        desk: shared.desk(place),
-        queue,
-        results,
-        log,
-    })
-}
-
 // What the displays' threads do.
-fn servers<'a, N: Server, K: EntryStore, R: Net + Clock, L: OpenListener + AsRawFd>(
+fn servers<'a, R: Net + Clock, L: OpenListener + AsRawFd, Q: Drop>(
     rt: &R,
     hall: &'a Hall<'a, L>,
-    shared: &'a Shared<N, K>,
-    places: &mut DeskPlaces<N>,
-    displays: Vec<Display<N>>,
-) -> Result<Vec<ServeClients<'a, N, K, L>>, ServingError>
-    requires { All (λ display. display ≡ []) displays.items }
-{
-    let Ok(mut servers) = Vec::with_capacity(hall.alloc, displays.len()) else {
+    keepers: Vec<Q>,
+) -> Result<Vec<ServeClients<'a, Q, L>>, ServingError> {
+    let Ok(mut servers) = Vec::with_capacity(hall.alloc, keepers.len()) else {
         return Err(ServingError::OutOfMemory);
     };
-    for display in displays {
-        add_server(rt, hall, shared, places, display, &mut servers)?;
+    for keeper in keepers {
+        add_server(rt, hall, keeper, &mut servers)?;
     }
     Ok(servers)
 }
 
 // Adds what the thread of a display does.
-fn add_server<'a, N: Server, K: EntryStore, R: Net + Clock, L: OpenListener + AsRawFd>(
+fn add_server<'a, R: Net + Clock, L: OpenListener + AsRawFd, Q: Drop>(
     rt: &R,
     hall: &'a Hall<'a, L>,
-    shared: &'a Shared<N, K>,
-    places: &mut DeskPlaces<N>,
-    display: Display<N>,
-    servers: &mut Vec<ServeClients<'a, N, K, L>>,
-) -> Result<(), ServingError>
-    requires { display ≡ [] }
-{
-    let Some(place) = places.take() else {
-        drop(display);
-        return Err(ServingError::NoPlace);
-    };
-    let watch = match watch_of(rt, hall) {
-        Ok(watch) => watch,
-        Err(error) => {
-            drop(display);
-            return Err(error);
-        }
-    };
+    keeper: Q,
+    servers: &mut Vec<ServeClients<'a, Q, L>>,
+) -> Result<(), ServingError> {
+    let watch = watch_of(rt, hall)?;
     let server = ServeClients {
         hall,
         watch,
-        desk: shared.desk(place),
-        display,
+        keeper,
     };
     add(servers, server)
 }

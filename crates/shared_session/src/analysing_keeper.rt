@@ -1,7 +1,5 @@
 //! A keeper that has analysed what it is told.
 
-ghost use Rattle.std.specs.Prelude.{◌≡◌};
-
 use desks::DeskKeeper;
 use displays::Server;
 use entry_store::EntryStore;
@@ -22,24 +20,27 @@ use user_names::{Digest, Name};
 
 /// A desk and a display that keep a session, and the queue of jobs, if anybody solves: what a confirmed or a corrected
 /// result leaves to find is queued before the batch is answered. What became of a batch is logged, if there is a log.
-#[derive(Drop)]
-pub(crate) struct AnalysingKeeper<'a, N: Server, K: EntryStore> {
-    keeper: DeskKeeper<'a, N, K>,
-    queue: Option<&'a JobQueue>,
-    log: Option<&'a SharedLog>,
+pub struct AnalysingKeeper<'a, N: Server, K: EntryStore> {
+    /// What keeps the session.
+    pub keeper: DeskKeeper<'a, N, K>,
+    /// The way to the workers, if there are any.
+    pub queue: Option<&'a JobQueue>,
+    /// What hears of batches, if there is a log.
+    pub log: Option<&'a SharedLog>,
+}
+
+// It is written out, so that a caller does not prove again how each part is dropped.
+impl<'a, N: Server, K: EntryStore> Drop for AnalysingKeeper<'a, N, K> {
+    fn drop(self) {
+        let AnalysingKeeper {
+            keeper: _,
+            queue: _,
+            log: _,
+        } = self;
+    }
 }
 
 impl<'a, N: Server, K: EntryStore> AnalysingKeeper<'a, N, K> {
-    pub(crate) fn new(
-        keeper: DeskKeeper<'a, N, K>,
-        queue: Option<&'a JobQueue>,
-        log: Option<&'a SharedLog>,
-    ) -> AnalysingKeeper<'a, N, K>
-        ensures { result.keeper.display ≡ keeper.entry.display }
-    {
-        AnalysingKeeper { keeper, queue, log }
-    }
-
     // Queues what is left to find of each result that was accepted.
     fn analyse<R: Wait>(&self, rt: &R, batch: &[Command], answers: &[Answer]) {
         let Some(queue) = self.queue else {

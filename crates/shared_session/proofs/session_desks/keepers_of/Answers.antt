@@ -1,6 +1,6 @@
 use Rattle.std.proofs.Common.{◌≡◌, [], ℕ, suc, ◌<◌, List, length, slice_index_or, arith, subst}
 use Rattle.session_commands.specs.declared.entry.Entry.{Entry}
-use Rattle.session_threads.proofs.serving.servers.Goals as goal
+use Rattle.shared_session.proofs.session_desks.keepers_of.Goals as goal
 
 -- those behind the first are of those that were to come
 pub loop-display-preserved : goal.loop-display-preserved

@@ -1,7 +1,7 @@
 use Rattle.std.proofs.Common.{◌≡◌, []}
 use Rattle.std.specs.Prelude.{All}
 use Rattle.std.specs.Vec.Iter.{into_iter_items}
-use Rattle.session_threads.proofs.serving.servers.Given as goal
+use Rattle.shared_session.proofs.session_desks.keepers_of.Given as goal
 
 -- the displays that are still to come have seen nothing
 abbrev pub invariant-loop-display : goal.invariant-loop-display
