@@ -11,7 +11,8 @@ clock disturbs none of them. Each round of measuring has two servers of its own.
 
 Processor time is the system's (Linux's schedstat) of the program's whole. What the sync is of it a library counts that is loaded under
 the program (LD_PRELOAD): the processor time of the thread in its calls of pwrite, fdatasync and fsync, of which a server makes none without a
-journal. What reading that clock takes isn't taken off, so it counts as the journal's. It needs a C compiler (cc).
+journal. Each call is looked at twice, of which the time of one look falls beside it: that is taken off too, as many looks in a row take it at
+the server's start, since without the library nobody looks. It needs a C compiler (cc).
 """
 import itertools
 import os
@@ -36,7 +37,8 @@ ROUNDS = int(WORDS[2]) if len(WORDS) > 2 else 12
 PAUSE = float(WORDS[3]) if len(WORDS) > 3 else 0
 OPENED = book_time.session()
 DEALS = OPENED.pop("pbn")
-COUNTING = r"""
+LOOKS = 20_000
+COUNTING = f"#define LOOKS {LOOKS}" + r"""
 #define _GNU_SOURCE
 #include <fcntl.h>
 #include <stdlib.h>
@@ -44,18 +46,21 @@ COUNTING = r"""
 #include <sys/syscall.h>
 #include <time.h>
 #include <unistd.h>
-static unsigned long unseen[2], *seen = unseen;
+static unsigned long unseen[3], *seen = unseen;
+static unsigned long now(void) {
+    struct timespec at;
+    clock_gettime(CLOCK_THREAD_CPUTIME_ID, &at);
+    return at.tv_sec * 1000000000ul + at.tv_nsec;
+}
 __attribute__((constructor)) static void begin(void) {
     int fd = syscall(SYS_openat, AT_FDCWD, getenv("SYNC_TIME"), O_RDWR);
     void *it = mmap(0, sizeof unseen, PROT_READ | PROT_WRITE, MAP_SHARED, fd, 0);
     if (it == MAP_FAILED) abort();
     seen = it;
     syscall(SYS_close, fd);
-}
-static unsigned long now(void) {
-    struct timespec at;
-    clock_gettime(CLOCK_THREAD_CPUTIME_ID, &at);
-    return at.tv_sec * 1000000000ul + at.tv_nsec;
+    unsigned long begun = now();
+    for (int look = 1; look < LOOKS; look++) now();
+    seen[2] = now() - begun;
 }
 #define COUNTED(type, call) { \
     unsigned long begun = now(); \
@@ -75,14 +80,14 @@ class Measured:
 
     def __init__(self, room, name, library, *words):
         self.counts = pathlib.Path(room, f"{name}.counts")
-        self.counts.write_bytes(bytes(16))
+        self.counts.write_bytes(bytes(24))
         env = {**os.environ, "LD_PRELOAD": library, "SYNC_TIME": str(self.counts)}
         self.server = Server(PROGRAM, *words, "--displays", 4, "--workers", 0, session=OPENED, deals=DEALS, env=env)
         self.client, self.took = signed_in(self.server), {"Enter": [], "Confirm": []}
 
     def so_far(self):
-        nanoseconds, calls = struct.unpack("QQ", self.counts.read_bytes())
-        return 1e6 * spent(self.server.process), nanoseconds / 1e3, calls
+        nanoseconds, calls, looks = struct.unpack("QQQ", self.counts.read_bytes())
+        return 1e6 * spent(self.server.process) - calls * looks / LOOKS / 1e3, nanoseconds / 1e3, calls
 
     def do_all(self, word, commands):
         """Does commands of one kind one after another, and notes what one of them took in the mean."""
