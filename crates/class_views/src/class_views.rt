@@ -22,10 +22,16 @@ use std::marker::Model;
 use table_terms::{Pair, Side};
 
 /// A state, and what is kept beside it of what each class of its users is shown; clauses see the state.
-#[derive(Drop)]
 pub struct ClassViews {
     state: State,
     kept: Kept,
+}
+
+// It is written out, so that a caller does not prove again how each part is dropped.
+impl Drop for ClassViews {
+    fn drop(self) {
+        let ClassViews { state: _, kept: _ } = self;
+    }
 }
 
 impl Model for ClassViews {

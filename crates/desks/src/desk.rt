@@ -39,10 +39,16 @@ use user_names::Name;
 /// store of which whatever a crash leaves then is what the receipt tells. That it is the one under the lock, the lock's
 /// own book says. Contracts see how many entries this desk has entered in all: each call enters what it is given, once,
 /// and nothing else.
-#[derive(Drop)]
 pub struct Desk<'a, N: Server, K: EntryStore> {
     lock: &'a Mutex<LockedBook<N, K>>,
     share: Share<N>,
+}
+
+// It is written out, so that a caller does not prove again how each part is dropped.
+impl<'a, N: Server, K: EntryStore> Drop for Desk<'a, N, K> {
+    fn drop(self) {
+        let Desk { lock: _, share: _ } = self;
+    }
 }
 
 impl<'a, N: Server, K: EntryStore> Model for Desk<'a, N, K> {

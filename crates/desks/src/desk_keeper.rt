@@ -24,10 +24,19 @@ use user_names::{Digest, Name};
 
 /// Keeps a session for a connection beside others: a desk, to which its commands go, and a display, which answers its
 /// queries and learns of each receipt. It stands for what the display has seen, and has entered what the desk has.
-#[derive(Drop)]
 pub struct DeskKeeper<'a, N: Server, K: EntryStore> {
     desk: Desk<'a, N, K>,
     display: Display<N>,
+}
+
+// It is written out, so that a caller does not prove again how each part is dropped.
+impl<'a, N: Server, K: EntryStore> Drop for DeskKeeper<'a, N, K> {
+    fn drop(self) {
+        let DeskKeeper {
+            desk: _,
+            display: _,
+        } = self;
+    }
 }
 
 impl<'a, N: Server, K: EntryStore> DeskKeeper<'a, N, K> {

@@ -24,12 +24,22 @@ use user_names::{Digest, Name};
 
 /// Answers queries by the copy that is shown. Contracts see it as the publications that it has seen or been told of: no
 /// answer is older.
-#[derive(Drop)]
 pub struct Display<N: Server> {
     reader: CopyReader<N>,
     prefix: HistoryPrefix,
     // Kept beside the copies, since a display may be refused entry.
     edition: Edition,
+}
+
+// It is written out, so that a caller does not prove again how each part is dropped.
+impl<N: Server> Drop for Display<N> {
+    fn drop(self) {
+        let Display {
+            reader: _,
+            prefix: _,
+            edition: _,
+        } = self;
+    }
 }
 
 impl<N: Server> Model for Display<N> {

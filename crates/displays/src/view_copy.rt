@@ -18,10 +18,16 @@ use std::marker::Model;
 use user_names::{Digest, Name};
 
 /// A view, and the publications for which it stands.
-#[derive(Drop)]
 pub struct ViewCopy {
     view: View,
     prefix: HistoryPrefix,
+}
+
+// It is written out, so that a caller does not prove again how each part is dropped.
+impl Drop for ViewCopy {
+    fn drop(self) {
+        let ViewCopy { view: _, prefix: _ } = self;
+    }
 }
 
 impl Model for ViewCopy {

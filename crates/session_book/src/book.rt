@@ -43,13 +43,25 @@ const FIRST_ROOM: usize = 256;
 
 /// A session's journal, beside the state that it leads to from the opening, and who was shown something of which board
 /// on the way.
-#[derive(Drop)]
 pub struct Book {
     opening: State,
     journal: Vec<Entry>,
     state: State,
     exposure: Exposure,
     alloc: Global,
+}
+
+// It is written out, so that a caller does not prove again how each part is dropped.
+impl Drop for Book {
+    fn drop(self) {
+        let Book {
+            opening: _,
+            journal: _,
+            state: _,
+            exposure: _,
+            alloc: _,
+        } = self;
+    }
 }
 
 impl Model for Book {

@@ -21,10 +21,16 @@ use std::marker::Model;
 use user_names::{Digest, Name};
 
 /// One book and one view of it: what the book accepts, the view takes in before the next call.
-#[derive(Drop)]
 pub struct PlainKeeper {
     book: Book,
     view: View,
+}
+
+// It is written out, so that a caller does not prove again how each part is dropped.
+impl Drop for PlainKeeper {
+    fn drop(self) {
+        let PlainKeeper { book: _, view: _ } = self;
+    }
 }
 
 impl Model for PlainKeeper {

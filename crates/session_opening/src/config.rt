@@ -7,7 +7,6 @@ use table_terms::Items;
 
 /// What a session opens with: by which edition of the policy, who plays what where, the boards, the users, and what it tells
 /// its members of itself.
-#[derive(Drop)]
 pub struct Config {
     /// The edition of the policy.
     pub edition: Edition,
@@ -17,4 +16,17 @@ pub struct Config {
     pub users: Items<NewUser>,
     /// What the session tells its members of itself.
     pub notices: Notices,
+}
+
+// It is written out, so that a caller does not prove again how each part is dropped.
+impl Drop for Config {
+    fn drop(self) {
+        let Config {
+            edition: _,
+            movement: _,
+            boards: _,
+            users: _,
+            notices: _,
+        } = self;
+    }
 }

@@ -16,7 +16,6 @@ use std::alloc::{AllocError, Global};
 use table_terms::Items;
 
 /// What a session comes to at a version.
-#[derive(Drop)]
 pub struct Report {
     /// What the session is called, where that is said.
     pub title: Option<NoticeText>,
@@ -32,6 +31,21 @@ pub struct Report {
     pub ranking: Items<Standing>,
     /// The boards from 1.
     pub boards: Items<BoardReport>,
+}
+
+// It is written out, so that a caller does not prove again how each part is dropped.
+impl Drop for Report {
+    fn drop(self) {
+        let Report {
+            title: _,
+            date: _,
+            phase: _,
+            version: _,
+            players: _,
+            ranking: _,
+            boards: _,
+        } = self;
+    }
 }
 
 /// What a session comes to that has taken so many entries. The state keeps no numbers of members: those that are known are

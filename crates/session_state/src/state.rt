@@ -43,7 +43,6 @@ const MOST_BOARDS: usize = Movement::MOST_BOARDS as usize;
 const MOST_CELLS: usize = Movement::MOST_TABLES as usize * MOST_BOARDS;
 
 /// What a session has come to.
-#[derive(Drop)]
 pub struct State {
     roles: Roles,
     digests: Vec<Digest>,
@@ -54,6 +53,23 @@ pub struct State {
     deals: Vec<Deal>,
     tables: Vec<Option<DdTable>>,
     notices: Notices,
+}
+
+// It is written out, so that a caller does not prove again how each part is dropped.
+impl Drop for State {
+    fn drop(self) {
+        let State {
+            roles: _,
+            digests: _,
+            names: _,
+            seats: _,
+            public: _,
+            cells: _,
+            deals: _,
+            tables: _,
+            notices: _,
+        } = self;
+    }
 }
 
 impl Model for State {
