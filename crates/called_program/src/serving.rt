@@ -29,6 +29,7 @@ use kept_sessions::{
 };
 use opened_session::OpenedSession;
 use operator_lines::{KeptIn, PortFault, ServingLine, tell};
+use port_threads::PortPlan;
 use row_journal::OpenedJournal;
 use server_words::{Serving, SessionFiles, SessionSource};
 use session_commands::Entry;
@@ -335,7 +336,7 @@ where
         errors,
     ) {
         Ok(store) => Ok(store),
-        Err(fault) => Err(fault_of_serving(rt, plan.address, fault)),
+        Err(fault) => Err(fault_of_serving(rt, plan.port.address, fault)),
     }
 }
 
@@ -391,16 +392,18 @@ fn plan_of<'a>(
     ensures { result.budget ≡ session.now.budget }
 {
     ServingPlan {
-        address: address_of(serving),
+        port: PortPlan {
+            address: address_of(serving),
+            clients: serving.clients,
+            connections: serving.connections,
+            idle: serving.idle,
+            origin: serving.origin,
+            page: means.page,
+            keys: means.keys,
+        },
         displays: serving.displays,
-        clients: serving.clients,
         workers: serving.workers,
-        connections: serving.connections,
         budget: session.budget,
-        idle: serving.idle,
-        origin: serving.origin,
-        page: means.page,
         log: means.log,
-        keys: means.keys,
     }
 }

@@ -3,7 +3,7 @@
 ghost use Rattle.operator_lines.specs.Serving.{TellsServing};
 
 use operator_lines::{ServingLine, tell_serving};
-use session_threads::Announcement;
+use port_threads::Announcement;
 use std::alloc::Global;
 use std::io::Write;
 

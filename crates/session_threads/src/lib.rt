@@ -2,9 +2,6 @@
 //! find is entered beside them.
 #![tactic(auto)]
 
-mod announcement;
 mod serving;
-mod tasks;
 
-pub use announcement::Announcement;
 pub use serving::{ServingError, ServingPlan, serve_book};

@@ -1,8 +1,9 @@
 //! A session that threads share: opened from its book and from what its store keeps, with the desks at which it is kept for a
-//! display's clients, so that what they enter is analysed.
+//! display's clients, so that what they enter is analysed, and how the clients of a display are served.
 #![tactic(auto)]
 
 mod analysing_keeper;
+mod display_clients;
 mod session_desks;
 mod sharing;
 

@@ -22,6 +22,11 @@ pub struct NewKeeper<'a, N: Server, K: EntryStore> {
 }
 
 impl<'a, N: Server, K: EntryStore> NewKeeper<'a, N, K> {
+    // What hears who signs in, if there is a log.
+    pub(crate) fn log(&self) -> Option<&'a SharedLog> {
+        self.log
+    }
+
     /// The keeper, as its clients come.
     pub fn begin(self) -> AnalysingKeeper<'a, N, K>
         ensures { result.keeper.display ≡ [] }

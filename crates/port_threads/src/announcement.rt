@@ -1,10 +1,10 @@
-//! What is told of a session once clients can come.
+//! What is told once clients can come.
 
 ghost use Rattle.std.specs.Prelude.{ℕ, Option, List};
 
 use std::io::Write;
 
-/// What is told of a session once its port is open.
+/// What is told once a port is open.
 pub trait Announcement {
     // What is told, from the bytes before to the bytes behind.
     ghost tells: { Self → Option (List ℕ) → Option (List ℕ) → Type 0 };
