@@ -86,7 +86,15 @@ where
     let crowd = AtomicUsize::new(0);
     let hall = hall_of(alloc, &listener, &room, &crowd, keepers.len(), plan);
     let serving = servers(rt, &hall, keepers)?;
-    launch(rt, collector, workers, serving, ending, announcement, errors)
+    launch(
+        rt,
+        collector,
+        workers,
+        serving,
+        ending,
+        announcement,
+        errors,
+    )
 }
 
 // Listens at a port. No keeper waits for the listener alone.

@@ -1,6 +1,6 @@
 //! Serving a session in threads, from its book to the end of the last of them.
 
-ghost use Rattle.std.specs.Prelude.{◌≡◌, ◌⊎◌, List, [], map, IfOk, OnErr};
+ghost use Rattle.std.specs.Prelude.{◌≡◌, ◌≢◌, ◌⊎◌, ℕ, List, [], map, IfOk, IfErr, OnErr};
 ghost use Rattle.session_commands.specs.declared.entry.Entry.{Entry};
 ghost use Rattle.displays.specs.Copies.{IsPublished};
 ghost use Rattle.desks.specs.Kept.{IsKeptBy, LeavesJust};
@@ -16,7 +16,9 @@ use port_threads::{Announcement, PortError, PortPlan, serve_port};
 use session_book::Book;
 use session_commands::Entry;
 use session_jobs::{CloseQueue, JobQueue, workers_of};
-use shared_session::{SessionDesks, SharedSession, SharingFault, desks_of, share_session};
+use shared_session::{
+    DeskFault, SessionDesks, SharedSession, SharingFault, desks_of, share_session,
+};
 use std::alloc::Global;
 use std::fmt;
 use std::io::Write;
@@ -90,6 +92,9 @@ where
     requires kept { LeavesJust (map (λ publication. publication.items) publications.items) (K.doubt store) (K.leaves store) }
     ensures kept { IfOk result (λ after. (published : List (List Entry)) × IsPublished book.opening published
         × IsKeptBy book.opening published (K.doubt after) (K.is_open after) (K.leaves after)) }
+    ensures accepted { IfErr result (λ error. (number : ℕ)
+        → IsPublished book.opening (map (λ publication. publication.items) publications.items)
+        → error ≢ ServingError.NotAccepted number) }
     ensures announced { IfOk result (λ _. A.tells announcement.now (E.contents errors.old) (E.contents errors.new)) }
     ensures unannounced { OnErr result ((errors.new ≡ errors.old)
         ⊎ A.tells announcement.now (E.contents errors.old) (E.contents errors.new)) }
@@ -145,6 +150,9 @@ where
     requires kept { LeavesJust (map (λ publication. publication.items) publications.items) (K.doubt store) (K.leaves store) }
     ensures kept { IfOk result (λ after. (published : List (List Entry)) × IsPublished N.opening published
         × IsKeptBy N.opening published (K.doubt after) (K.is_open after) (K.leaves after)) }
+    ensures accepted { IfErr result (λ error. (number : ℕ)
+        → IsPublished N.opening (map (λ publication. publication.items) publications.items)
+        → error ≢ ServingError.NotAccepted number) }
     ensures announced { IfOk result (λ _. A.tells announcement.now (E.contents errors.old) (E.contents errors.new)) }
     ensures unannounced { OnErr result ((errors.new ≡ errors.old)
         ⊎ A.tells announcement.now (E.contents errors.old) (E.contents errors.new)) }
@@ -171,7 +179,7 @@ where
     };
     let served = match desks_of(alloc, &shared, places, displays, solving, plan.log) {
         Ok(desks) => serve_desks(rt, alloc, desks, queue, plan, announcement, errors),
-        Err(fault) => Err(not_shared(fault)),
+        Err(fault) => Err(not_placed(fault)),
     };
     let store = shared.close(rt);
     match served {
@@ -181,11 +189,23 @@ where
 }
 
 // Why nobody is served where a session isn't shared.
-fn not_shared(fault: SharingFault) -> ServingError {
+fn not_shared(fault: SharingFault) -> ServingError
+    ensures { (number : ℕ) → result ≡ ServingError.NotAccepted number → fault ≡ SharingFault.NotAccepted number }
+{
     match fault {
         SharingFault::OutOfMemory => ServingError::OutOfMemory,
         SharingFault::NoPlace => ServingError::NoPlace,
         SharingFault::NotAccepted(number) => ServingError::NotAccepted(number),
+    }
+}
+
+// Why nobody is served where a session gives out no desks.
+fn not_placed(fault: DeskFault) -> ServingError
+    ensures { (number : ℕ) → result ≢ ServingError.NotAccepted number }
+{
+    match fault {
+        DeskFault::OutOfMemory => ServingError::OutOfMemory,
+        DeskFault::NoPlace => ServingError::NoPlace,
     }
 }
 
@@ -208,6 +228,7 @@ fn serve_desks<
 where
     R::Listener: Sync,
     R::Stream: Send,
+    ensures accepted { IfErr result (λ error. (number : ℕ) → error ≢ ServingError.NotAccepted number) }
     ensures announced { IfOk result (λ _. A.tells announcement.now (E.contents errors.old) (E.contents errors.new)) }
     ensures unannounced { OnErr result ((errors.new ≡ errors.old)
         ⊎ A.tells announcement.now (E.contents errors.old) (E.contents errors.new)) }
@@ -247,7 +268,9 @@ where
 }
 
 // Why nobody is served where nobody is at the port.
-fn not_served(error: PortError) -> ServingError {
+fn not_served(error: PortError) -> ServingError
+    ensures { (number : ℕ) → result ≢ ServingError.NotAccepted number }
+{
     match error {
         PortError::OutOfMemory => ServingError::OutOfMemory,
         PortError::NotListening => ServingError::NotListening,

@@ -8,5 +8,5 @@ mod session_desks;
 mod sharing;
 
 pub use analysing_keeper::AnalysingKeeper;
-pub use session_desks::{NewKeeper, SessionDesks, desks_of};
+pub use session_desks::{DeskFault, NewKeeper, SessionDesks, desks_of};
 pub use sharing::{SharedSession, SharingFault, share_session};

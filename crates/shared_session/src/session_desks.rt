@@ -3,7 +3,6 @@
 ghost use Rattle.std.specs.Prelude.{◌≡◌, [], All};
 
 use crate::analysing_keeper::AnalysingKeeper;
-use crate::sharing::SharingFault;
 use desks::{Desk, DeskKeeper, DeskPlaces, Shared};
 use displays::{Display, Server};
 use entry_store::EntryStore;
@@ -57,6 +56,15 @@ impl<'a, N: Server, K: EntryStore> Drop for NewKeeper<'a, N, K> {
     }
 }
 
+/// Why a session gives out no desks.
+#[derive(Clone, Copy)]
+pub enum DeskFault {
+    /// Memory was refused.
+    OutOfMemory,
+    /// There is no place for a desk.
+    NoPlace,
+}
+
 /// The desks of a session.
 pub struct SessionDesks<'a, N: Server, K: EntryStore> {
     /// The keepers, one for the clients of each display.
@@ -74,12 +82,12 @@ pub fn desks_of<'a, N: Server, K: EntryStore>(
     displays: Vec<Display<N>>,
     queue: Option<&'a JobQueue>,
     log: Option<&'a SharedLog>,
-) -> Result<SessionDesks<'a, N, K>, SharingFault>
+) -> Result<SessionDesks<'a, N, K>, DeskFault>
     requires { All (λ display. display ≡ []) displays.items }
 {
     let Some(place) = places.take() else {
         drop(displays);
-        return Err(SharingFault::NoPlace);
+        return Err(DeskFault::NoPlace);
     };
     match keepers_of(alloc, shared, places, displays, queue, log) {
         Ok(keepers) => Ok(SessionDesks {
@@ -98,11 +106,11 @@ fn keepers_of<'a, N: Server, K: EntryStore>(
     displays: Vec<Display<N>>,
     queue: Option<&'a JobQueue>,
     log: Option<&'a SharedLog>,
-) -> Result<Vec<NewKeeper<'a, N, K>>, SharingFault>
+) -> Result<Vec<NewKeeper<'a, N, K>>, DeskFault>
     requires { All (λ display. display ≡ []) displays.items }
 {
     let Ok(mut keepers) = Vec::with_capacity(alloc, displays.len()) else {
-        return Err(SharingFault::OutOfMemory);
+        return Err(DeskFault::OutOfMemory);
     };
     for display in displays {
         add_keeper(shared, &mut places, display, queue, log, &mut keepers)?;
@@ -118,12 +126,12 @@ fn add_keeper<'a, N: Server, K: EntryStore>(
     queue: Option<&'a JobQueue>,
     log: Option<&'a SharedLog>,
     keepers: &mut Vec<NewKeeper<'a, N, K>>,
-) -> Result<(), SharingFault>
+) -> Result<(), DeskFault>
     requires { display ≡ [] }
 {
     let Some(place) = places.take() else {
         drop(display);
-        return Err(SharingFault::NoPlace);
+        return Err(DeskFault::NoPlace);
     };
     let keeper = NewKeeper {
         desk: shared.desk(place),
@@ -135,9 +143,9 @@ fn add_keeper<'a, N: Server, K: EntryStore>(
 }
 
 // Adds an item, which is dropped where memory is refused. It stands by itself, since it needs to know nothing of the item.
-fn add<T: Drop>(items: &mut Vec<T>, item: T) -> Result<(), SharingFault> {
+fn add<T: Drop>(items: &mut Vec<T>, item: T) -> Result<(), DeskFault> {
     match items.push(item) {
         Ok(()) => Ok(()),
-        Err(_) => Err(SharingFault::OutOfMemory),
+        Err(_) => Err(DeskFault::OutOfMemory),
     }
 }

@@ -3,7 +3,8 @@
 //! On a way out at a fault a book, a view, a publisher or a display is dropped by name: that is one call, where it would otherwise be
 //! dropped there field by field, each a step of the proof.
 
-ghost use Rattle.std.specs.Prelude.{◌≡◌, [], All, map, IfOk};
+ghost use Rattle.std.specs.Prelude.{◌≡◌, ◌≢◌, ℕ, [], All, map, IfOk, IfErr};
+ghost use Rattle.displays.specs.Copies.{IsPublished};
 ghost use Rattle.displays.specs.Publishing.{nothing_outgoing};
 ghost use Rattle.desks.specs.Kept.{LeavesJust};
 ghost use Rattle.desks.specs.Places.{IsTallyOf};
@@ -60,12 +61,15 @@ pub fn share_session<N: Server, R: Wait, K: EntryStore>(
     requires tally { IsTallyOf N.name N.parts tally.name tally.parts }
     requires kept { LeavesJust (map (λ publication. publication.items) publications.items) (K.doubt store) (K.leaves store) }
     ensures displays { IfOk result (λ session. All (λ display. display ≡ []) session.displays.items) }
+    ensures accepted { IfErr result (λ fault. (number : ℕ)
+        → IsPublished N.opening (map (λ publication. publication.items) publications.items)
+        → fault ≢ SharingFault.NotAccepted number) }
 {
     let (publisher, displays) = match open_views::<N, R>(rt, alloc, &book, history, displays) {
         Ok(opened) => opened,
-        Err(fault) => {
+        Err(error) => {
             drop(book);
-            return Err(fault);
+            return Err(not_opened(error));
         }
     };
     match share::<N, R, K>(
@@ -83,9 +87,31 @@ pub fn share_session<N: Server, R: Wait, K: EntryStore>(
             places,
             displays,
         }),
-        Err(fault) => {
+        Err((number, fault)) => {
             drop(displays);
-            Err(fault)
+            Err(not_reentered(number, fault))
+        }
+    }
+}
+
+// Why nothing is shared where no displays open.
+fn not_opened(error: OpenError) -> SharingFault
+    ensures { (number : ℕ) → result ≢ SharingFault.NotAccepted number }
+{
+    match error {
+        OpenError::NoPlace => SharingFault::NoPlace,
+        OpenError::OutOfMemory => SharingFault::OutOfMemory,
+    }
+}
+
+// Why nothing is shared where an entry isn't entered again.
+fn not_reentered(number: usize, fault: ReentryFault) -> SharingFault
+    ensures { fault ≡ ReentryFault.OutOfMemory → result ≡ SharingFault.OutOfMemory }
+{
+    match fault {
+        ReentryFault::OutOfMemory => SharingFault::OutOfMemory,
+        ReentryFault::Refused(_) | ReentryFault::Empty => {
+            SharingFault::NotAccepted(u32::try_from(number).unwrap_or(u32::MAX))
         }
     }
 }
@@ -97,7 +123,7 @@ fn open_views<N: Server, R: Wait>(
     book: &Book,
     history: History,
     displays: u8,
-) -> Result<(Publisher<N>, Vec<Display<N>>), SharingFault>
+) -> Result<(Publisher<N>, Vec<Display<N>>), OpenError>
     requires journal { book.now.journal ≡ [] }
     requires opening { book.now.opening ≡ N.opening }
     requires history { history ≡ N.history }
@@ -106,20 +132,16 @@ fn open_views<N: Server, R: Wait>(
 {
     let first = match View::open(alloc, book) {
         Ok(view) => view,
-        Err(_) => return Err(SharingFault::OutOfMemory),
+        Err(_) => return Err(OpenError::OutOfMemory),
     };
     let second = match View::open(alloc, book) {
         Ok(view) => view,
         Err(_) => {
             drop(first);
-            return Err(SharingFault::OutOfMemory);
+            return Err(OpenError::OutOfMemory);
         }
     };
-    match open_displays::<N, R>(rt, alloc, history, first, second, displays as usize) {
-        Ok(opened) => Ok(opened),
-        Err(OpenError::NoPlace) => Err(SharingFault::NoPlace),
-        Err(OpenError::OutOfMemory) => Err(SharingFault::OutOfMemory),
-    }
+    open_displays::<N, R>(rt, alloc, history, first, second, displays as usize)
 }
 
 // Enters what a store keeps, and puts all of it under a lock. What is left to find is queued, if there is a queue.
@@ -132,12 +154,14 @@ fn share<N: Server, R: Wait, K: EntryStore>(
     tally: Blank,
     publications: Vec<Vec<Entry>>,
     queue: Option<&JobQueue>,
-) -> Result<(Shared<N, K>, DeskPlaces<N>), SharingFault>
+) -> Result<(Shared<N, K>, DeskPlaces<N>), (usize, ReentryFault)>
     requires journal { book.journal ≡ [] }
     requires opening { book.opening ≡ N.opening }
     requires publisher { publisher ≡ nothing_outgoing }
     requires tally { IsTallyOf N.name N.parts tally.name tally.parts }
     requires kept { LeavesJust (map (λ publication. publication.items) publications.items) (K.doubt store) (K.leaves store) }
+    ensures accepted { IfErr result (λ t. IsPublished N.opening (map (λ publication. publication.items) publications.items)
+        → t.1 ≡ ReentryFault.OutOfMemory) }
 {
     match reenter_all(rt, &mut book, &mut publisher, publications.as_slice()) {
         Ok(()) => {
@@ -146,20 +170,10 @@ fn share<N: Server, R: Wait, K: EntryStore>(
             }
             Ok(Shared::new(alloc, book, publisher, store, tally))
         }
-        Err((number, fault)) => {
+        Err(refused) => {
             publisher.close(rt);
             drop(book);
-            Err(not_reentered(number, fault))
-        }
-    }
-}
-
-// Why nothing is shared where an entry isn't entered again.
-fn not_reentered(number: usize, fault: ReentryFault) -> SharingFault {
-    match fault {
-        ReentryFault::OutOfMemory => SharingFault::OutOfMemory,
-        ReentryFault::Refused(_) | ReentryFault::Empty => {
-            SharingFault::NotAccepted(u32::try_from(number).unwrap_or(u32::MAX))
+            Err(refused)
         }
     }
 }
