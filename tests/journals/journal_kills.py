@@ -5,7 +5,7 @@
 
 It needs Debian's package sqlite3; its sessions and messages are those of tests/drivers/random_session.py. There are ten
 evenings, each a session with a journal of its own, in which as many rounds are played as there are kills. In a round the server is
-started, four desks send batches over WebSocket and two users ask, until SIGKILL comes; in every fifth round a start is killed too.
+started, four desks send batches over WebSocket and two users ask, until SIGKILL comes; in every fifth round a start is killed too, most before it serves.
 Then the journal's rows are read by SQLite, and the model goes on by them. What each round must show:
 
 - No row that was there before is gone or another; each row behind them is a command that was sent, in its sender's name, or the solver's.
@@ -30,7 +30,7 @@ import time
 
 sys.path[:0] = [str(pathlib.Path(__file__).resolve().parents[1] / folder) for folder in ("drivers", "runs")]
 from compared_talks import compare_batch, compare_version
-from journal_files import integrity_of, publications, rows_of, without_empty_play
+from journal_files import integrity_of, is_there, publications, rows_of, without_empty_play
 from random_session import BOARDS, Sender, SolvedSession, deal_text, pbn_text, session_of, some_hands
 from raw_client import Client, Ended, Server, free_port
 from write_stored_runs import text_of
@@ -154,11 +154,14 @@ class Evening:
             session.write_text(text_of(self.session))
             deals.write_text(self.deals)
             with subprocess.Popen([PROGRAM, "serve", "--session", session, "--deals", deals, "--journal", self.journal, "--port", str(free_port())],
-                                  stdin=subprocess.DEVNULL) as process:
+                                  stdin=subprocess.DEVNULL, stderr=subprocess.PIPE) as process:
                 time.sleep(self.rng.random() * LONGEST_START)
                 process.kill()
-        self.counts["starts killed"] += 1
+                told = process.stderr.read()
+        assert process.returncode == -9, f"a start ended by itself: {told}"
+        self.counts["starts killed"] += told == b""
         assert rows_of(self.journal)[:len(self.rows)] == self.rows, "a start that was killed has lost rows"
+        assert not is_there(self.journal) or integrity_of(self.journal) == "ok", "a start that was killed has left a file that isn't whole"
 
     def look_around(self, server, said):
         """What is shown right after the start: the whole audit, and to several users queries of each kind."""
@@ -251,7 +254,7 @@ def sorted_out(answered):
 
 def main():
     print(f"        seed {SEED}, {KILLS} kills in {EVENINGS} evenings", flush=True)
-    begun, spoiled = time.monotonic(), 0
+    begun, spoiled, starts = time.monotonic(), 0, 0
     with tempfile.TemporaryDirectory() as folder:
         for number in range(EVENINGS):
             rounds = KILLS // EVENINGS + (number < KILLS % EVENINGS)
@@ -262,8 +265,10 @@ def main():
                 except AssertionError as fault:
                     raise SystemExit(f"FAILED  evening {number}, kill {played + 1}: {fault}") from None
             spoiled += evening.counts["spoiled"]
+            starts += evening.counts["starts killed"]
             evening.tell(number, rounds)
     assert KILLS < 100 or spoiled, "nobody was refused a board that he was shown: the sessions are too tame"
+    assert KILLS < 100 or starts, "no start was killed before it served"
     print(f"all is as it should be: {spoiled} results were refused to those who were shown the board; {time.monotonic() - begun:.0f} s")
 
 

@@ -246,6 +246,7 @@ def refusals(folder):
         check("a second server on the same file", refused(3, "JournalBusy"), files.start(kept))
         check("and the first one goes on", 5, told(signed_in(server), {"do": [release(1)]})["first"])
     check("of the first one all is there", 5, len(rows_of(kept)))
+    check("and it is whole", "ok", integrity_of(kept))
     by_command = copied(kept, tempfile.mkdtemp(dir=folder))
     subprocess.run(["sqlite3", str(by_command), "UPDATE entry SET number = 9 WHERE number = 2"], check=True)
     assert not log_of(by_command).exists()
