@@ -58,7 +58,7 @@ test:
 test-fast:
 	python3 tests/all_checks.py --fast
 
-# The page's own tests: its plain functions, and a session in real browsers (client/README.md says what they need).
+# The page's own tests: its plain functions, and a session in Chromium (client/README.md says what they need).
 test-page: $(PROGRAM)
 	node --test client/tests/
 	/usr/bin/python3 tests/browser/page_session.py $(PROGRAM)

@@ -41,8 +41,7 @@ export function badCondition(conditions) {
     if (!boundsOf[kind]) return false;
     const [least, most] = boundsOf[kind];
     return ["min", "max"].some(
-      (bound) => !/^[-−]?\d+$/u.test(values[bound].trim(
-      )) || numberOf(values[bound]) < least || numberOf(values[bound]) > most,
+      (bound) => !/^[-−]?\d+$/u.test(values[bound].trim()) || numberOf(values[bound]) < least || numberOf(values[bound]) > most,
     );
   });
 }

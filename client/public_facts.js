@@ -24,11 +24,8 @@ export const isScheduled = (facts, table, board) => rowOf(facts, table, board) !
 
 /** The tables that are scheduled to play a board and have no result on it, the least first. */
 export function awaitedTables(facts, board) {
-  return rowsOfBoard(facts.rows, board, facts.per_set).map((row) => row.table).filter((table) => !isLive(
-    facts,
-    table,
-    board,
-  ));
+  const tables = rowsOfBoard(facts.rows, board, facts.per_set).map((row) => row.table);
+  return tables.filter((table) => !isLive(facts, table, board));
 }
 
 export const isComplete = (facts, board) => awaitedTables(facts, board).length === 0;

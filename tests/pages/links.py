@@ -3,7 +3,7 @@
 
     tests/pages/links.py
 
-The pages are those of the top, all below docs/, client/, examples/, benches/ and tests/, each README.md of a crate and of a folder in it, and
+The pages are those of the top, all below docs/, client/, examples/, benches/, tests/ and parked/, each README.md of a crate and of a folder in it, and
 NOTICE. Of each page
 
 - a relative link must lead to a file or a folder, and where it names a chapter (`#..`) to a heading of that page;
@@ -32,7 +32,7 @@ HISTORY = ROOT / "docs/decisions"
 
 def pages():
     yield ROOT / "NOTICE"
-    for folder in ("", "docs", "client", "examples", "benches", "tests"):
+    for folder in ("", "docs", "client", "examples", "benches", "tests", "parked"):
         yield from sorted((ROOT / folder).glob("*.md" if not folder else "**/*.md"))
     yield from sorted((ROOT / "crates").glob("*/README.md"))
     yield from sorted((ROOT / "crates").glob("*/*/README.md"))

@@ -129,8 +129,11 @@ impl<'a, N: Server, K: EntryStore, R: Wait + Clock> CommandKeeper<R> for Analysi
 // the desk says.
 fn counted_cell(command: &Command) -> Option<Cell> {
     let row = command.row();
-    match (row.target, row.touched) {
-        (Target::Cell(cell), Touched::Board(_)) => Some(cell),
-        _ => None,
+    let Target::Cell(cell) = row.target else {
+        return None;
+    };
+    match row.touched {
+        Touched::Board(_) => Some(cell),
+        Touched::Nothing | Touched::User(_) | Touched::Everything => None,
     }
 }
