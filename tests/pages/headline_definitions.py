@@ -75,9 +75,14 @@ def behind_the_laws():
 
 
 def rows_of_the_page():
+    """How many definitions each file has by the page, of which files it says that they are to be read, and the four numbers of its sentence."""
     with open(f"{TOP}/{PAGE}", encoding="utf-8") as file:
-        rows = re.findall(r"^\| `(\w+)/specs/(\w+)\.antt` \| (\d+) \|", file.read(), re.M)
-    return {(crate, file): int(number) for crate, file, number in rows}
+        text = file.read()
+    rows = re.findall(r"^\| `(\w+)/specs/(\w+)\.antt` \| (\d+) \| (\w*)", text, re.M)
+    said = re.search(r"^(\d+) definitions in (\d+) files stand .* Read (\d+) of them, in (\d+) files;", text, re.M)
+    of_files = {(crate, file): int(number) for crate, file, number, _ in rows}
+    to_read = [int(number) for *_, number, is_read in rows if is_read == "read"]
+    return of_files, to_read, [int(number) for number in said.groups()]
 
 
 def main():
@@ -87,7 +92,10 @@ def main():
     print(f"{sum(counted.values())} definitions in {len(counted)} files")
     if "--check" not in sys.argv[1:]:
         return 0
-    page, wrong = rows_of_the_page(), 0
+    (page, to_read, said), wrong = rows_of_the_page(), 0
+    if said != (counts := [sum(counted.values()), len(counted), sum(to_read), len(to_read)]):
+        wrong += 1
+        print(f"{PAGE} says {said} of definitions and files, and not {counts}")
     for place in sorted({*page, *counted}):
         if page.get(place) != counted.get(place):
             wrong += 1
