@@ -329,7 +329,7 @@ where
         rt,
         alloc,
         session.book,
-        plan,
+        &plan,
         store,
         publications,
         &announcement,

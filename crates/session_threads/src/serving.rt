@@ -20,7 +20,6 @@ use shared_session::{
     DeskFault, SessionDesks, SharedSession, SharingFault, desks_of, share_session,
 };
 use std::alloc::Global;
-use std::fmt;
 use std::io::Write;
 use std::marker::Brand;
 use std::net::Net;
@@ -28,7 +27,6 @@ use std::sync::Wait;
 use std::sync::ledger::Blank;
 use std::thread::Threads;
 use std::time::Clock;
-use thiserror::Error;
 
 /// How a session is served.
 #[derive(Clone, Copy)]
@@ -46,7 +44,7 @@ pub struct ServingPlan<'a> {
 }
 
 /// Why no session is served.
-#[derive(Clone, Copy, Debug, Error)]
+#[derive(Clone, Copy)]
 pub enum ServingError {
     /// Memory was refused.
     OutOfMemory,
@@ -58,13 +56,6 @@ pub enum ServingError {
     NotListening,
     /// No thread could be started for any display, or one can't wait for clients.
     NoThread,
-}
-
-/// The variant's name.
-impl fmt::Display for ServingError {
-    fn fmt<W: fmt::Write>(&self, f: &mut fmt::Formatter<W>) -> fmt::Result {
-        fmt::Debug::fmt(self, f)
-    }
 }
 
 /// Serves a session, until each display has served its connections, and gives back its store. The book has nothing entered
@@ -79,7 +70,7 @@ pub fn serve_book<
     rt: &R,
     alloc: Global,
     book: Book,
-    plan: ServingPlan<'_>,
+    plan: &ServingPlan<'_>,
     store: K,
     publications: Vec<Vec<Entry>>,
     announcement: &A,
@@ -133,7 +124,7 @@ fn serve_named<
     book: Book,
     history: History,
     tally: Blank,
-    plan: ServingPlan<'_>,
+    plan: &ServingPlan<'_>,
     store: K,
     publications: Vec<Vec<Entry>>,
     queue: &JobQueue,
@@ -221,7 +212,7 @@ fn serve_desks<
     alloc: Global,
     desks: SessionDesks<'_, N, K>,
     queue: &JobQueue,
-    plan: ServingPlan<'_>,
+    plan: &ServingPlan<'_>,
     announcement: &A,
     errors: &mut E,
 ) -> Result<(), ServingError>
