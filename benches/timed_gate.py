@@ -6,7 +6,7 @@
     benches/timed_gate.py LOG [--anew] [CRATE..]
 
 The gate is the kit's own, and so are what it says and its status; with `--anew` nothing counts that an earlier run proved, and with crates
-it goes over these and those below them alone, on a copy. To LOG is added, of each check, the time of day at which it ended, how long it took, its crate, what it was (`proof`, `tests`, `edits`, or in kit 13f
+it goes over these and those below them alone, which the kit does on a copy. To LOG is added, of each check, the time of day at which it ended, how long it took, its crate, what it was (`proof`, `tests`, `edits`, or in kit 13f
 `seed` and `edit`), and `ok` or `FAILED`. A program's proof has its two builds in it. The last line, `ended after`, has the whole time, with
 the runs of the programs and of the tests.
 
@@ -95,7 +95,7 @@ def time_edits_over_a_seed(rt, tell):
 
 
 def main():
-    if len(sys.argv) < 2:
+    if len(sys.argv) < 2 or sys.argv[1].startswith("-"):
         sys.exit(__doc__)
     rt = kits_rt()
     rt.rtlib.Crate.stamp, rt.rtlib.Crate.below = once(rt.rtlib.Crate.stamp), once(rt.rtlib.Crate.below)

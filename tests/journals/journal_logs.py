@@ -5,7 +5,8 @@
 
 It needs Debian's package sqlite3. A server that was killed has left a file and its log (`FILE-wal`). Each copy of the two, with the log cut
 or changed, is read by `bridge_server audit`, and some of them by a server that goes on with it. Each must have the first batches, whole, of
-those that were kept, or be refused by name; never a part of a batch. Each line is a check: 'ok', or 'FAILED' with what came; the status is
+those that were kept, or be refused by name; never a part of a batch. Where the log is but cut within its last batch, as a crash may leave
+it, none may be refused. Each line is a check: 'ok', or 'FAILED' with what came; the status is
 1 where one failed.
 """
 import collections

@@ -2,7 +2,8 @@
 """Counts the definitions that stand behind the headline, by file of crates/*/specs.
 
 From the clauses of published_view's laws it follows each name to its definition, and from there on, until nothing new is
-named. `--check` reads docs/HEADLINE.md as well, and fails where its table names another file or another number.
+named. `--check` reads docs/HEADLINE.md as well, and fails where its table names another file or another number, or its sentence
+other numbers of definitions and files, of all and of those to be read.
 
     tests/pages/headline_definitions.py [--check]
 """
@@ -80,6 +81,8 @@ def rows_of_the_page():
         text = file.read()
     rows = re.findall(r"^\| `(\w+)/specs/(\w+)\.antt` \| (\d+) \| (\w*)", text, re.M)
     said = re.search(r"^(\d+) definitions in (\d+) files stand .* Read (\d+) of them, in (\d+) files;", text, re.M)
+    if not said:
+        sys.exit(f"{PAGE} has no sentence that counts the definitions")
     of_files = {(crate, file): int(number) for crate, file, number, _ in rows}
     to_read = [int(number) for *_, number, is_read in rows if is_read == "read"]
     return of_files, to_read, [int(number) for number in said.groups()]
