@@ -11,13 +11,24 @@ use std::time::Duration;
 
 /// Numbers jobs in a pool, and gives them to the workers: what the cards of a play cost at once, and of the tables only so many that
 /// each worker has work. So no costs wait for more than a table's time, however many boards are left.
-#[derive(Drop)]
 pub struct JobQueue {
     pool: Mutex<Pool>,
     waiting: Mutex<Waiting>,
     // What the workers receive.
     jobs: Receiver<Job>,
     workers: u8,
+}
+
+// It is written out, so that a caller does not prove again how each part is dropped.
+impl Drop for JobQueue {
+    fn drop(self) {
+        let JobQueue {
+            pool: _,
+            waiting: _,
+            jobs: _,
+            workers: _,
+        } = self;
+    }
 }
 
 // What is left to give out, and the way to the workers.

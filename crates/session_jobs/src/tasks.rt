@@ -12,7 +12,6 @@ use std::sync::Wait;
 use std::time::{Clock, Duration, Instant};
 
 /// Solves the jobs that come, and has tables given out as it is done with them. How long each took is noted, if it is to be.
-#[derive(Drop)]
 pub struct Solve<'a> {
     alloc: Global,
     queue: &'a JobQueue,
@@ -20,6 +19,19 @@ pub struct Solve<'a> {
     /// How many visits may be made for a job.
     pub budget: u64,
     is_timed: bool,
+}
+
+// It is written out, so that a caller does not prove again how each part is dropped.
+impl<'a> Drop for Solve<'a> {
+    fn drop(self) {
+        let Solve {
+            alloc: _,
+            queue: _,
+            results: _,
+            budget: _,
+            is_timed: _,
+        } = self;
+    }
 }
 
 impl<'a> Task for Solve<'a> {
