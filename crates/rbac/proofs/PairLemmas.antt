@@ -98,7 +98,7 @@ height Administrator = 1
 height Commentator = 2
 
 all_fall : (edition : Edition) → All (λ pair. height pair.junior < height pair.senior) (opening_pairs edition)
-unfolding height
+unfolding height opening_pairs
 all_fall First =
     All-from_recursion (λ pair. height pair.junior < height pair.senior) (opening_pairs First)
     (omega arith, (omega arith, (omega arith, (omega arith, (omega arith, (omega arith, tt))))))
@@ -123,5 +123,6 @@ opening_acyclic edition role n round =
     absurd (omega (arith, each_falls edition role round.0 round.1, falls edition n round.0 role round.2))
 
 pub opening_once : (edition : Edition) → IsDistinct same_inheritance (opening_pairs edition)
+unfolding opening_pairs
 opening_once First = IsDistinct-from_count same_pair_equivalence (opening_pairs First) refl
 opening_once Second = IsDistinct-from_count same_pair_equivalence (opening_pairs Second) refl

@@ -1,20 +1,13 @@
 -- The role hierarchy (hierarchical RBAC of INCITS 359-2012): which roles a role inherits, by the pairs that were added.
-use Rattle.std.specs.Prelude.{◌≡◌, ℕ, zero, suc, Bool, ◌||◌, ◌&&◌, not, List, [], ◌∷◌, ◌++◌, filter, Contains}
+use Rattle.std.specs.Prelude.{◌≡◌, ℕ, zero, suc, Bool, ◌||◌, ◌&&◌, not, List, [], ◌∷◌, ◌++◌, map, filter, Contains}
+use Rattle.std.specs.List.{flat_map}
 use Rattle.session_roles.specs.declared.edition.Edition.{Edition}
-use Rattle.session_roles.specs.declared.edition.Edition.TheVariants.{First, Second}
 use Rattle.session_roles.specs.declared.role.Role.{Role}
-use Rattle.session_roles.specs.declared.role.Role.TheVariants.{
-  Member,
-  Spectator,
-  Contestant,
-  Scorer,
-  Director,
-  Administrator,
-  Commentator,
-}
+use Rattle.session_roles.specs.declared.role.Role.TheVariants.{Member}
 use Rattle.rbac.specs.declared.inheritance.Inheritance.{Inheritance}
 use Rattle.rbac.specs.declared.roles.TheConstants.Roles.{MOST_PAIRS}
-use Rattle.session_roles.specs.Role.{same_role}
+use Rattle.session_roles.specs.Role.{is_role_of, roles, same_role}
+use Rattle.session_roles.specs.RoleRow.{role_row}
 
 -- the pair in which the senior inherits the junior
 abbrev pub pair_of : Role → Role → Inheritance
@@ -38,21 +31,19 @@ IsAcyclic pairs = (role : Role) (n : ℕ) → ¬ Chain pairs (suc n) role role
 abbrev pub most_pairs : ℕ
 most_pairs = MOST_PAIRS
 
--- the pairs of a new session by the first edition, in their order
-abbrev pub first_pairs : List Inheritance
-first_pairs =
-    pair_of Spectator Member
-    ∷ pair_of Contestant Member
-    ∷ pair_of Scorer Member
-    ∷ pair_of Administrator Member
-    ∷ pair_of Director Scorer
-    ∷ pair_of Director Spectator
-    ∷ []
+-- the pairs that the rows of an edition's roles tell, in the order of the senior roles
+abbrev told_pairs : Edition → List Inheritance
+told_pairs edition =
+    flat_map (λ senior. map (pair_of senior) (role_row senior).juniors) (filter (is_role_of edition) roles)
 
--- and by either one: the second edition has one pair more, the last
-abbrev pub opening_pairs : Edition → List Inheritance
-opening_pairs First = first_pairs
-opening_pairs Second = first_pairs ++ pair_of Commentator Spectator ∷ []
+-- whether what is inherited is just what each member has
+abbrev is_over_members : Inheritance → Bool
+is_over_members pair = same_role pair.junior Member
+
+-- the pairs of a new session, in their order: those over members, and then the others
+unfoldable pub opening_pairs : Edition → List Inheritance
+opening_pairs edition =
+    filter is_over_members (told_pairs edition) ++ filter (λ pair. not (is_over_members pair)) (told_pairs edition)
 
 -- whether two pairs are one
 abbrev pub same_inheritance : Inheritance → Inheritance → Bool

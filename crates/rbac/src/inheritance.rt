@@ -12,7 +12,8 @@ pub struct Inheritance {
 impl Inheritance {
     ghost use Rattle.rbac.specs.Inheritance.{opening_pairs, without_pair};
 
-    /// The pairs of a new session, in their order. The last one is of the second edition alone.
+    /// The pairs of a new session as the rows of its roles tell them, in their order. The last one is of the second
+    /// edition alone.
     const OPENING: [Inheritance; 7] = [
         Inheritance {
             senior: Role::Spectator,

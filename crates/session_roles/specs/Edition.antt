@@ -13,6 +13,11 @@ abbrev pub is_second : Edition → Bool
 is_second First = false
 is_second Second = true
 
+-- whether an edition has what came with one: the first has its own alone, the second has all
+abbrev pub has_what_came_with : Edition → Edition → Bool
+has_what_came_with edition First = true
+has_what_came_with edition Second = is_second edition
+
 -- whether two editions are one
 abbrev pub same_edition : Edition → Edition → Bool
 same_edition a b = nat_eq (edition_number a) (edition_number b)

@@ -1,17 +1,8 @@
 -- The operations of a session, and the roles that permit them (core RBAC of INCITS 359-2012).
-use Rattle.std.specs.Prelude.{ℕ, Bool, true, ◌&&◌, nat_eq, List, [], ◌∷◌, codes}
+use Rattle.std.specs.Prelude.{ℕ, Bool, true, ◌&&◌, nat_eq, List, codes}
 use Rattle.std.specs.List.{list_any}
 use Rattle.session_roles.specs.declared.edition.Edition.{Edition}
 use Rattle.session_roles.specs.declared.role.Role.{Role}
-use Rattle.session_roles.specs.declared.role.Role.TheVariants.{
-  Member,
-  Spectator,
-  Contestant,
-  Scorer,
-  Director,
-  Administrator,
-  Commentator,
-}
 use Rattle.session_roles.specs.declared.operation.Operation.{Operation}
 use Rattle.session_roles.specs.declared.operation.Operation.TheVariants.{
   Enter,
@@ -38,6 +29,7 @@ use Rattle.session_roles.specs.declared.operation.Operation.TheVariants.{
 }
 use Rattle.session_roles.specs.Edition.{is_second}
 use Rattle.session_roles.specs.Role.{roles, has}
+use Rattle.session_roles.specs.RoleRow.{role_row}
 
 -- an operation's place in their order, counted from 0
 abbrev pub operation_number : Operation → ℕ
@@ -117,28 +109,7 @@ same_operation a b = nat_eq (operation_number a) (operation_number b)
 
 -- the operations that a role itself permits
 abbrev pub operations_of : Role → List Operation
-operations_of Member = []
-operations_of Spectator = []
-operations_of Contestant = []
-operations_of Scorer = Enter ∷ Confirm ∷ []
-operations_of Director =
-    Correct
-    ∷ Rule
-    ∷ Void
-    ∷ Hold
-    ∷ Release
-    ∷ Seat
-    ∷ Unseat
-    ∷ NextRound
-    ∷ Close
-    ∷ Finalise
-    ∷ Audit
-    ∷ Embargo
-    ∷ Lift
-    ∷ []
-operations_of Administrator =
-    AddUser ∷ Assign ∷ Deassign ∷ AddInheritance ∷ DeleteInheritance ∷ Audit ∷ Rename ∷ []
-operations_of Commentator = []
+operations_of role = (role_row role).operations
 
 -- whether a role itself permits an operation
 abbrev pub permits : Role → Operation → Bool

@@ -1,5 +1,5 @@
 -- The roles of a session (core RBAC of INCITS 359-2012), and sets of them as lists in the order of the roles.
-use Rattle.std.specs.Prelude.{◌≡◌, ℕ, Bool, true, ◌||◌, ◌&&◌, not, nat_eq, List, [], ◌∷◌, filter, codes}
+use Rattle.std.specs.Prelude.{◌≡◌, ℕ, Bool, ◌||◌, ◌&&◌, not, nat_eq, List, [], ◌∷◌, filter}
 use Rattle.std.specs.List.{list_any}
 use Rattle.session_roles.specs.declared.edition.Edition.{Edition}
 use Rattle.session_roles.specs.declared.role.Role.{Role}
@@ -12,7 +12,8 @@ use Rattle.session_roles.specs.declared.role.Role.TheVariants.{
   Administrator,
   Commentator,
 }
-use Rattle.session_roles.specs.Edition.{is_second}
+use Rattle.session_roles.specs.Edition.{has_what_came_with}
+use Rattle.session_roles.specs.RoleRow.{role_row}
 
 -- the roles in their order
 abbrev pub roles : List Role
@@ -29,23 +30,11 @@ role_number Administrator = 5
 role_number Commentator = 6
 
 abbrev pub role_name : Role → List ℕ
-role_name Member = codes "Member"
-role_name Spectator = codes "Spectator"
-role_name Contestant = codes "Contestant"
-role_name Scorer = codes "Scorer"
-role_name Director = codes "Director"
-role_name Administrator = codes "Administrator"
-role_name Commentator = codes "Commentator"
+role_name role = (role_row role).name
 
--- whether an edition knows the role: the first one knows all but the last
+-- whether an edition knows the role
 abbrev pub is_role_of : Edition → Role → Bool
-is_role_of edition Member = true
-is_role_of edition Spectator = true
-is_role_of edition Contestant = true
-is_role_of edition Scorer = true
-is_role_of edition Director = true
-is_role_of edition Administrator = true
-is_role_of edition Commentator = is_second edition
+is_role_of edition role = has_what_came_with edition (role_row role).since
 
 -- the roles that an edition knows, in their order
 unfoldable pub roles_of : Edition → List Role

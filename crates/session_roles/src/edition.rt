@@ -1,5 +1,5 @@
 ghost use Rattle.std.specs.Prelude.{◌≡◌, ◌≢◌, IfSome, IfNone};
-ghost use Rattle.session_roles.specs.Edition.{edition_number, is_second};
+ghost use Rattle.session_roles.specs.Edition.{edition_number, has_what_came_with, is_second};
 ghost use Rattle.session_roles.specs.declared.edition.Edition.{Edition};
 
 /// An edition of the policy. The second one has commentators and embargoes, and has all of the first.
@@ -39,6 +39,16 @@ impl Edition {
         match self {
             Edition::First => false,
             Edition::Second => true,
+        }
+    }
+
+    /// Whether it has what came with an edition.
+    pub fn has_what_came_with(self, since: Edition) -> bool
+        ensures { result ≡ has_what_came_with self since }
+    {
+        match since {
+            Edition::First => true,
+            Edition::Second => self.is_second(),
         }
     }
 }

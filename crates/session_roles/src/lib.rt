@@ -5,11 +5,13 @@
 mod edition;
 mod operation;
 mod role;
+mod role_row;
 mod role_set;
 mod separation_set;
 
 pub use edition::Edition;
 pub use operation::Operation;
 pub use role::Role;
+pub use role_row::RoleRow;
 pub use role_set::RoleSet;
 pub use separation_set::SeparationSet;

@@ -113,34 +113,7 @@ impl Role {
     pub fn operations(self) -> &'static [Operation]
         ensures { result.now ≡ operations_of self }
     {
-        match self {
-            Role::Member | Role::Spectator | Role::Contestant | Role::Commentator => &[],
-            Role::Scorer => &[Operation::Enter, Operation::Confirm],
-            Role::Director => &[
-                Operation::Correct,
-                Operation::Rule,
-                Operation::Void,
-                Operation::Hold,
-                Operation::Release,
-                Operation::Seat,
-                Operation::Unseat,
-                Operation::NextRound,
-                Operation::Close,
-                Operation::Finalise,
-                Operation::Audit,
-                Operation::Embargo,
-                Operation::Lift,
-            ],
-            Role::Administrator => &[
-                Operation::AddUser,
-                Operation::Assign,
-                Operation::Deassign,
-                Operation::AddInheritance,
-                Operation::DeleteInheritance,
-                Operation::Audit,
-                Operation::Rename,
-            ],
-        }
+        self.row().operations
     }
 
     /// Whether the role itself permits the operation.
