@@ -47,10 +47,19 @@
 /** @typedef {{inherits: [string, string][], users: [string, string[]][]}} Accounts */
 /** @typedef {[number, string|null, string, string]} AuditRow number, user (null: the solver), word, what it is about */
 
-const roles = ["Member", "Spectator", "Contestant", "Scorer", "Director", "Administrator"];
+// the roles, in their order, each with the edition that it came with: written by tests/pages/client_commands.py, from the table of docs/PROTOCOL.md
+const roles = {
+  Member: 1,
+  Spectator: 1,
+  Contestant: 1,
+  Scorer: 1,
+  Director: 1,
+  Administrator: 1,
+  Commentator: 2,
+};
 
 /** The roles of an edition. */
-export const rolesOf = (edition) => (edition === 2 ? [...roles, "Commentator"] : roles);
+export const rolesOf = (edition) => Object.keys(roles).filter((role) => roles[role] <= edition);
 
 /** @typedef {{ask: string, board?: number, table?: number, filter?: object, from?: number, limit?: number}} Query */
 

@@ -1,7 +1,7 @@
-"""What the tables of docs/PROTOCOL.md say of each command, each query and each refusal, for whoever needs it: the plain models, the check of the
-page's types, and what writes the rows of the client.
+"""What the tables of docs/PROTOCOL.md say of each command, each query, each refusal and each role, for whoever needs it: the plain models, the
+check of the page's types, and what writes the rows of the client.
 
-    from protocol_tables import COMMANDS, QUERIES
+    from protocol_tables import COMMANDS, QUERIES, ROLES
 
 The page is read at start, and strictly: where a table is missing, a cell isn't in the form of the others, or two tables don't tell of the same
 commands, the program that reads it ends and says the page's line and what is wrong there.
@@ -43,6 +43,14 @@ class Query(NamedTuple):
     edition: int
     members: list
     may_be_missing: list
+
+
+class Role(NamedTuple):
+    """The edition from which on it is known, whom it inherits as a session opens, and who is kept apart from it, by the set's name."""
+    line: int
+    edition: int
+    juniors: list
+    apart: dict
 
 
 def stop(line, fault):
@@ -209,6 +217,22 @@ def commands(own, about):
     return {word: command for word, (_, command) in found.items()}
 
 
+def roles():
+    """Each role, in their order."""
+    found = {}
+    for line, (words, juniors, apart) in table("Queries", "Role", "Inherits, as a session opens", "Kept apart from"):
+        words, edition = words_and_edition(line, words)
+        kept = re.fullmatch(r"`(\w+)`, as `(\w+)`", apart)
+        if apart and not kept:
+            stop(line, f"{apart!r} isn't a role and a set's name")
+        put(found, line, words, Role(line, edition, words_of(line, juniors), {kept[2]: kept[1]} if kept else {}))
+    for line, role in found.values():
+        for other in [*role.juniors, *role.apart.values()]:
+            if other not in found:
+                stop(line, f"{other} is no role")
+    return {word: role for word, (_, role) in found.items()}
+
+
 def check_words(own, about):
     """No table has a command that isn't one, and none tells it by a member that it hasn't."""
     for word, (line, _) in [*own.items(), *about.items()]:
@@ -241,7 +265,7 @@ def check_refusals(own):
 
 
 OWN_REFUSALS, ABOUT = own_refusals(), targets()
-COMMANDS, QUERIES, REFUSALS = commands(OWN_REFUSALS, ABOUT), queries(), refusals()
+COMMANDS, QUERIES, REFUSALS, ROLES = commands(OWN_REFUSALS, ABOUT), queries(), refusals(), roles()
 BEFORE, AFTER = shared_refusals()
 TARGETS = {word: target for word, (_, target) in ABOUT.items()}
 check_words(OWN_REFUSALS, ABOUT)
@@ -251,7 +275,7 @@ check_refusals(OWN_REFUSALS)
 
 
 def of_edition(things, edition):
-    """The commands, or the queries, that an edition has."""
+    """The commands, the queries or the roles that an edition has."""
     return {word: thing for word, thing in things.items() if thing.edition <= edition}
 
 

@@ -7,12 +7,11 @@ tests/models/movements.py, and what a command is refused for in tests/models/jud
 from functools import cmp_to_key
 
 from movements import movement_of
+from protocol_tables import ROLES, of_edition
 
-# The last of each is the second edition's alone, and so is the fourth rule.
-PAIRS = [("Spectator", "Member"), ("Contestant", "Member"), ("Scorer", "Member"), ("Administrator", "Member"),
-         ("Director", "Scorer"), ("Director", "Spectator"), ("Commentator", "Spectator")]
-ROLES = ["Member", "Spectator", "Contestant", "Scorer", "Director", "Administrator", "Commentator"]
-SEPARATED = {"S1": "Director", "S2": "Scorer", "S3": "Administrator", "S4": "Commentator"}
+# the sets of separation, by their names, each with the role that it keeps apart from contestants
+SEPARATED = {name: word for name, word in sorted((name, word) for word, role in ROLES.items() for name in role.apart)}
+# the fourth rule is the second edition's alone
 WHY = [
     "no such account", "not a member", "accounts are for administrators and directors", "the session is under embargo", "the board is held",
     "your pair has still to play this board", "the board isn't complete and you don't play it",
@@ -26,11 +25,13 @@ HANDS_OF = {"board": "Hands", "traveller": "Hands", "analysis": "Analysis", "par
 
 
 def roles_of(edition):
-    return ROLES if edition == 2 else ROLES[:-1]
+    return list(of_edition(ROLES, edition))
 
 
 def opening_pairs(edition):
-    return list(PAIRS if edition == 2 else PAIRS[:-1])
+    """The pairs of a new session, those over members first."""
+    told = [(senior, junior) for senior, role in of_edition(ROLES, edition).items() for junior in role.juniors]
+    return sorted(told, key=lambda pair: pair[1] != "Member")
 
 
 def why(edition, rule):

@@ -1,8 +1,9 @@
 #!/usr/bin/env python3
-"""The rows of the client's tables that are about each command, from the tables of docs/PROTOCOL.md (tests/models/protocol_tables.py).
+"""The rows of the client's tables that are about each command and each role, from the tables of docs/PROTOCOL.md
+(tests/models/protocol_tables.py).
 
     tests/pages/client_commands.py            # prints them
-    tests/pages/client_commands.py --write    # puts them into client/messages.js, `command`, and client/audit_rows.js, `kinds`
+    tests/pages/client_commands.py --write    # puts them into client/messages.js, `roles` and `command`, and client/audit_rows.js, `kinds`
     tests/pages/client_commands.py --check    # whether they stand in both
 
 A row of `command` makes a command of its members' values, in the page's order; a member that may be left out is a list, and is left out where
@@ -14,10 +15,15 @@ import sys
 
 ROOT = pathlib.Path(__file__).resolve().parents[2]
 sys.path[:0] = [str(ROOT / "tests" / "models")]
-from protocol_tables import COMMANDS, TARGETS  # noqa: E402
+from protocol_tables import COMMANDS, ROLES, TARGETS  # noqa: E402
 
 KINDS = {"cell": "{table}/{board}", "board": "{board}", "role": "{name}:{role}", "inheritance": "{senior}>{junior}"}
 NAMED = ("{name}", "")
+
+
+def role_rows():
+    for word, role in ROLES.items():
+        yield f"  {word}: {role.edition},\n"
 
 
 def command_rows():
@@ -37,7 +43,8 @@ def kind_rows():
 
 
 # each module with the table in it, and its rows
-TABLES = (("client/messages.js", "export const command = {\n", command_rows), ("client/audit_rows.js", "const kinds = {\n", kind_rows))
+TABLES = (("client/messages.js", "const roles = {\n", role_rows), ("client/messages.js", "export const command = {\n", command_rows),
+          ("client/audit_rows.js", "const kinds = {\n", kind_rows))
 
 
 # a module with these rows in its table
@@ -58,7 +65,7 @@ def main():
             print(begins + "".join(rows()) + "};")
         elif module != wanted:
             faults += 1
-            print(f"{path} has other commands than docs/PROTOCOL.md: tests/pages/client_commands.py --write")
+            print(f"{path} has other rows than docs/PROTOCOL.md: tests/pages/client_commands.py --write")
     return 1 if faults else 0
 
 
