@@ -76,8 +76,9 @@ impl PartialEq for Name {
 
     ghost laws = { partial_equiv_from_equiv nat_list_eq_equiv };
 
+    // By their bytes: what `as_str` gives is looked through once more, and names are compared for each account.
     fn eq(&self, other: &Name) -> bool {
-        self.as_str() == other.as_str()
+        self.bytes[..self.len as usize] == other.bytes[..other.len as usize]
     }
 }
 
