@@ -6,8 +6,9 @@
 The files lie in the folder, else in the system's for temporary files: it decides which disk is measured, and so how long a sync takes.
 Python's standard library is enough. The session is that of benches/book_time.py: 16 tables, 64 boards, 256 accounts; a
 director enters and confirms results, each in a batch of its own, or holds and releases boards. With a journal and without one take turns,
-five rounds of each. Processor time is the system's (Linux's schedstat) of the program's whole.
-What a Confirm costs beside the sync benches/beside_the_sync.py says.
+of which another is first in each round: five rounds of each, and twenty of queries. Processor time is the system's (Linux's schedstat) of the
+program's whole.
+What a Confirm costs beside the sync benches/beside_the_sync.py and benches/confirm_instructions.py say.
 """
 import json
 import multiprocessing
@@ -29,7 +30,7 @@ WORDS = sys.argv[1:]
 PROGRAM = WORDS[0] if WORDS else "crates/bridge_server/out/bridge_server"
 FOLDER = WORDS[1] if len(WORDS) > 1 else None
 SECONDS = float(WORDS[2]) if len(WORDS) > 2 else 2
-ROUNDS = 5
+ROUNDS, QUERY_ROUNDS = 5, 20
 OPENED = book_time.session()
 DEALS = OPENED.pop("pbn")
 ENTRIES = (2_000, 60_000)
@@ -181,11 +182,11 @@ def solved_starts(folder):
     return boards, *took
 
 
-def in_turns(measure, *words):
+def in_turns(measure, *words, rounds=ROUNDS):
     """What is measured without a journal and with one, by turns."""
     found = {False: [], True: []}
-    for _ in range(ROUNDS):
-        for kept in found:
+    for turn in range(rounds):
+        for kept in (False, True) if turn % 2 == 0 else (True, False):
             found[kept].append(measure(*words[:1], kept, *words[1:]))
     return found[False], found[True]
 
@@ -202,9 +203,11 @@ def main():
         print(f"as many writes and syncs by themselves: {system_time(folder):.0f} microseconds of processor time", flush=True)
         for word, one, other in zip(("an Enter", "a Confirm"), without, kept):
             print(f"processor time of {word}: {one:.0f} microseconds without a journal, {other:.0f} with one: {other / one:.2f} times", flush=True)
-        without, kept = ([statistics.median(column) for column in zip(*rounds)] for rounds in in_turns(queries, folder))
-        print(f"a query while batches are entered: {without[0]:.0f} microseconds without a journal, {kept[0]:.0f} with one; "
-              f"the 99th of a hundred {without[1]:.0f}, {kept[1]:.0f}", flush=True)
+        without, kept = in_turns(queries, folder, rounds=QUERY_ROUNDS)
+        for what, one, other in zip(("the median", "the 99th of a hundred"), zip(*without), zip(*kept)):
+            slower = sum(after > before for before, after in zip(one, other))
+            print(f"a query while batches are entered, {what}: {statistics.median(one):.0f} microseconds without a journal, "
+                  f"{statistics.median(other):.0f} with one, which is slower in {slower} of {QUERY_ROUNDS} rounds", flush=True)
         for count in ENTRIES:
             seconds, size, log = starts(folder, count)
             print(f"a start with {count} entries: {seconds:.2f} s; the file has {size} bytes, and its log {log}", flush=True)
