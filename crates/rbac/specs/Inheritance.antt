@@ -32,12 +32,12 @@ abbrev pub most_pairs : ℕ
 most_pairs = MOST_PAIRS
 
 -- the pairs that the rows of an edition's roles tell, in the order of the senior roles
-abbrev told_pairs : Edition → List Inheritance
+abbrev pub told_pairs : Edition → List Inheritance
 told_pairs edition =
     flat_map (λ senior. map (pair_of senior) (role_row senior).juniors) (filter (is_role_of edition) roles)
 
--- whether what is inherited is just what each member has
-abbrev is_over_members : Inheritance → Bool
+-- whether the junior role is Member
+abbrev pub is_over_members : Inheritance → Bool
 is_over_members pair = same_role pair.junior Member
 
 -- the pairs of a new session, in their order: those over members, and then the others

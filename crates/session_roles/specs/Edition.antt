@@ -13,7 +13,7 @@ abbrev pub is_second : Edition → Bool
 is_second First = false
 is_second Second = true
 
--- whether an edition has what came with one: the first has its own alone, the second has all
+-- whether an edition has what came with another: the first has only its own, the second has all
 abbrev pub has_what_came_with : Edition → Edition → Bool
 has_what_came_with edition First = true
 has_what_came_with edition Second = is_second edition

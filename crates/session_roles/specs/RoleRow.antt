@@ -1,4 +1,4 @@
--- A row for each role: what is told of it in every session.
+-- A row for each role, in their order: what is known of it whatever the session's state is.
 use Rattle.std.specs.Prelude.{ℕ, List, [], ◌∷◌, codes}
 use Rattle.session_roles.specs.declared.edition.Edition.{Edition}
 use Rattle.session_roles.specs.declared.edition.Edition.TheVariants.{First, Second}

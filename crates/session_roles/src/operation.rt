@@ -1,10 +1,12 @@
 ghost use Rattle.std.specs.Prelude.{◌≡◌, ◌<◌};
 ghost use Rattle.std.specs.List.{list_any};
 ghost use Rattle.session_roles.specs.Role.{has, roles};
+ghost use Rattle.session_roles.specs.RoleRow.{role_row};
 ghost use Rattle.session_roles.specs.Operation.{is_operation_of, operation_name, operation_number, operations_of, one_permits, permits};
 
 use crate::edition::Edition;
 use crate::role::Role;
+use crate::role_row::RoleRow;
 use crate::role_set::RoleSet;
 
 /// What a user may do with a session (an operation of INCITS 359-2012).
@@ -109,6 +111,81 @@ impl Operation {
 }
 
 impl Role {
+    /// Its row: what is known of it whatever the session's state is.
+    pub fn row(self) -> RoleRow
+        ensures name { result.name.now ≡ (role_row self).name }
+        ensures since { result.since ≡ (role_row self).since }
+        ensures operations { result.operations.now ≡ (role_row self).operations }
+        ensures juniors { result.juniors.now ≡ (role_row self).juniors }
+    {
+        match self {
+            Role::Member => RoleRow {
+                name: "Member",
+                since: Edition::First,
+                operations: &[],
+                juniors: &[],
+            },
+            Role::Spectator => RoleRow {
+                name: "Spectator",
+                since: Edition::First,
+                operations: &[],
+                juniors: &[Role::Member],
+            },
+            Role::Contestant => RoleRow {
+                name: "Contestant",
+                since: Edition::First,
+                operations: &[],
+                juniors: &[Role::Member],
+            },
+            Role::Scorer => RoleRow {
+                name: "Scorer",
+                since: Edition::First,
+                operations: &[Operation::Enter, Operation::Confirm],
+                juniors: &[Role::Member],
+            },
+            Role::Director => RoleRow {
+                name: "Director",
+                since: Edition::First,
+                operations: &[
+                    Operation::Correct,
+                    Operation::Rule,
+                    Operation::Void,
+                    Operation::Hold,
+                    Operation::Release,
+                    Operation::Seat,
+                    Operation::Unseat,
+                    Operation::NextRound,
+                    Operation::Close,
+                    Operation::Finalise,
+                    Operation::Audit,
+                    Operation::Embargo,
+                    Operation::Lift,
+                ],
+                juniors: &[Role::Scorer, Role::Spectator],
+            },
+            Role::Administrator => RoleRow {
+                name: "Administrator",
+                since: Edition::First,
+                operations: &[
+                    Operation::AddUser,
+                    Operation::Assign,
+                    Operation::Deassign,
+                    Operation::AddInheritance,
+                    Operation::DeleteInheritance,
+                    Operation::Audit,
+                    Operation::Rename,
+                ],
+                juniors: &[Role::Member],
+            },
+            Role::Commentator => RoleRow {
+                name: "Commentator",
+                since: Edition::Second,
+                operations: &[],
+                juniors: &[Role::Spectator],
+            },
+        }
+    }
+
     /// The operations that the role itself permits (the permission assignment of INCITS 359-2012).
     pub fn operations(self) -> &'static [Operation]
         ensures { result.now ≡ operations_of self }

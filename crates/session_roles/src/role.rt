@@ -1,12 +1,9 @@
 ghost use Rattle.std.specs.Prelude.{◌≡◌, ◌≢◌, ◌<◌, IfSome, IfNone, Some};
 ghost use Rattle.session_roles.specs.Role.{is_role_of, role_name, role_number};
-ghost use Rattle.session_roles.specs.RoleRow.{role_row};
 ghost use Rattle.session_roles.specs.declared.role.Role.{Role};
 ghost use Rattle.session_roles.specs.declared.role.TheConstants.Role.{COUNT};
 
 use crate::edition::Edition;
-use crate::operation::Operation;
-use crate::role_row::RoleRow;
 use std::fmt;
 
 /// A role of a session, in the order in which roles are listed (core RBAC of INCITS 359-2012).
@@ -42,81 +39,6 @@ impl Role {
         ensures below { result < COUNT }
     {
         self as u8
-    }
-
-    /// Its row: what is told of it in every session.
-    pub fn row(self) -> RoleRow
-        ensures name { result.name.now ≡ (role_row self).name }
-        ensures since { result.since ≡ (role_row self).since }
-        ensures operations { result.operations.now ≡ (role_row self).operations }
-        ensures juniors { result.juniors.now ≡ (role_row self).juniors }
-    {
-        match self {
-            Role::Member => RoleRow {
-                name: "Member",
-                since: Edition::First,
-                operations: &[],
-                juniors: &[],
-            },
-            Role::Spectator => RoleRow {
-                name: "Spectator",
-                since: Edition::First,
-                operations: &[],
-                juniors: &[Role::Member],
-            },
-            Role::Contestant => RoleRow {
-                name: "Contestant",
-                since: Edition::First,
-                operations: &[],
-                juniors: &[Role::Member],
-            },
-            Role::Scorer => RoleRow {
-                name: "Scorer",
-                since: Edition::First,
-                operations: &[Operation::Enter, Operation::Confirm],
-                juniors: &[Role::Member],
-            },
-            Role::Director => RoleRow {
-                name: "Director",
-                since: Edition::First,
-                operations: &[
-                    Operation::Correct,
-                    Operation::Rule,
-                    Operation::Void,
-                    Operation::Hold,
-                    Operation::Release,
-                    Operation::Seat,
-                    Operation::Unseat,
-                    Operation::NextRound,
-                    Operation::Close,
-                    Operation::Finalise,
-                    Operation::Audit,
-                    Operation::Embargo,
-                    Operation::Lift,
-                ],
-                juniors: &[Role::Scorer, Role::Spectator],
-            },
-            Role::Administrator => RoleRow {
-                name: "Administrator",
-                since: Edition::First,
-                operations: &[
-                    Operation::AddUser,
-                    Operation::Assign,
-                    Operation::Deassign,
-                    Operation::AddInheritance,
-                    Operation::DeleteInheritance,
-                    Operation::Audit,
-                    Operation::Rename,
-                ],
-                juniors: &[Role::Member],
-            },
-            Role::Commentator => RoleRow {
-                name: "Commentator",
-                since: Edition::Second,
-                operations: &[],
-                juniors: &[Role::Spectator],
-            },
-        }
     }
 
     /// Whether an edition knows the role.

@@ -2,7 +2,7 @@ use crate::edition::Edition;
 use crate::operation::Operation;
 use crate::role::Role;
 
-/// What is told of a role in every session.
+/// What is known of a role whatever the session's state is.
 #[derive(Clone, Copy)]
 pub struct RoleRow {
     /// How it is called, as `Member`.

@@ -76,7 +76,7 @@ impl PartialEq for Name {
 
     ghost laws = { partial_equiv_from_equiv nat_list_eq_equiv };
 
-    // By their bytes: what `as_str` gives is looked through once more, and names are compared for each account.
+    // By their bytes: `as_str` would look through both once more as UTF-8, and a name is compared with each account's.
     fn eq(&self, other: &Name) -> bool {
         self.bytes[..self.len as usize] == other.bytes[..other.len as usize]
     }
