@@ -3,9 +3,10 @@
 
     benches/confirm_instructions.py [PROGRAM [ROUND]]
 
-The session is that of benches/book_time.py: 16 tables, 64 boards, 256 accounts. In a round of play (the eighth of fifteen, where none is given) a
-director enters all 64 results, and then confirms them, each in a batch of its own. What one takes is what valgrind's callgrind counts more where
-the 64 of them are done, a sixty-fourth of it: message, answer and the text of the journal's entry included, the system's own work not.
+The session is that of benches/book_time.py: 16 tables, 64 boards, 256 accounts. In a round of play (the eighth of fifteen, where none is
+given) a director enters all 64 results, and then confirms them, each in a batch of its own, at a server of one display. What one takes: the
+instructions of a server that ends behind the 64, less those of one that ends before them, by 64. Message, answer and the text of the journal's
+entry are in it, what the system does is not. It needs valgrind.
 """
 import itertools
 import pathlib

@@ -5,8 +5,8 @@
 
 The files lie in the folder, else in the system's for temporary files: it decides which disk is measured, and so how long a sync takes.
 Python's standard library is enough. The session is that of benches/book_time.py: 16 tables, 64 boards, 256 accounts; a
-director enters and confirms results, each in a batch of its own, or holds and releases boards. With a journal and without one take turns,
-of which another is first in each round: five rounds of each, and twenty of queries. Processor time is the system's (Linux's schedstat) of the
+director enters and confirms results, each in a batch of its own, or holds and releases boards. Servers with a journal and without one take
+turns, and each round begins with the other: five rounds, and twenty of queries. Processor time is the system's (Linux's schedstat) of the
 program's whole.
 What a Confirm costs beside the sync benches/beside_the_sync.py and benches/confirm_instructions.py say.
 """

@@ -47,7 +47,8 @@
 /** @typedef {{inherits: [string, string][], users: [string, string[]][]}} Accounts */
 /** @typedef {[number, string|null, string, string]} AuditRow number, user (null: the solver), word, what it is about */
 
-// the roles, in their order, each with the edition that it came with: written by tests/pages/client_commands.py, from the table of docs/PROTOCOL.md
+// the roles, in their order, each with the edition that it came with
+// written by tests/pages/client_commands.py, from the table of docs/PROTOCOL.md
 const roles = {
   Member: 1,
   Spectator: 1,

@@ -46,7 +46,8 @@ class Query(NamedTuple):
 
 
 class Role(NamedTuple):
-    """The edition from which on it is known, whom it inherits as a session opens, and who is kept apart from it, by the set's name."""
+    """The line of its row, the edition from which on it is known, whom it inherits as a session opens, and who is kept apart from it, by the
+    set's name."""
     line: int
     edition: int
     juniors: list
@@ -211,8 +212,8 @@ def commands(own, about):
             for others, what in ((own, "own refusals"), (about, "what an audit tells")):
                 if word not in others:
                     stop(line, f"{word} has no row in the table of {what}")
-            roles = [looked_up(line, one, WHO) for one in who.split(", ")]
-            put(found, line, [word], Command(line, edition, *members_of(line, members), roles, looked_up(line, when, phases), own[word][1],
+            permitted = [looked_up(line, one, WHO) for one in who.split(", ")]
+            put(found, line, [word], Command(line, edition, *members_of(line, members), permitted, looked_up(line, when, phases), own[word][1],
                                              about[word][1]))
     return {word: command for word, (_, command) in found.items()}
 
@@ -226,10 +227,14 @@ def roles():
         if apart and not kept:
             stop(line, f"{apart!r} isn't a role and a set's name")
         put(found, line, words, Role(line, edition, words_of(line, juniors), {kept[2]: kept[1]} if kept else {}))
+    sets = {}
     for line, role in found.values():
-        for other in [*role.juniors, *role.apart.values()]:
+        for other in role.juniors:
             if other not in found:
                 stop(line, f"{other} is no role")
+        put(sets, line, role.apart, None)
+        if not {*role.apart.values()} <= {"Contestant"}:
+            stop(line, "the models know no role but Contestant from which another is kept apart")
     return {word: role for word, (_, role) in found.items()}
 
 

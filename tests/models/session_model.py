@@ -10,7 +10,7 @@ from movements import movement_of
 from protocol_tables import ROLES, of_edition
 
 # the sets of separation, by their names, each with the role that it keeps apart from contestants
-SEPARATED = {name: word for name, word in sorted((name, word) for word, role in ROLES.items() for name in role.apart)}
+SEPARATED = dict(sorted((name, word) for word, role in ROLES.items() for name in role.apart))
 # the fourth rule is the second edition's alone
 WHY = [
     "no such account", "not a member", "accounts are for administrators and directors", "the session is under embargo", "the board is held",

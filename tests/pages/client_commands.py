@@ -6,6 +6,7 @@
     tests/pages/client_commands.py --write    # puts them into client/messages.js, `roles` and `command`, and client/audit_rows.js, `kinds`
     tests/pages/client_commands.py --check    # whether they stand in both
 
+A row of `roles` has the edition that the role came with.
 A row of `command` makes a command of its members' values, in the page's order; a member that may be left out is a list, and is left out where
 it is empty. `kinds` has the commands of which an audit tells more than a name. The status is 1 where a row differs.
 """
