@@ -1,6 +1,6 @@
 ghost use Rattle.std.specs.Prelude.{◌≡◌, ◌&&◌, ◌||◌, not};
 ghost use Rattle.session_roles.specs.declared.role.Role.TheVariants.{Spectator, Director, Administrator};
-ghost use Rattle.disclosure_rules.specs.Fact.{is_accounts, is_analysed, is_of_play, is_reason};
+ghost use Rattle.disclosure_rules.specs.Fact.{board_of_fact, cell_of_fact, is_accounts, is_analysed, is_of_play, is_reason};
 ghost use Rattle.disclosure_rules.specs.LiveCells.{is_live};
 ghost use Rattle.small_sets.specs.Numbers.{has_number};
 ghost use Rattle.disclosure_rules.specs.Phase.{is_running};
@@ -19,20 +19,30 @@ use session_roles::Role;
 pub fn decide(public: &Public, viewer: &Viewer, fact: Fact) -> Option<Rule>
     ensures { result ≡ first_rule public.now viewer.now fact }
 {
+    // what is guarded from the user is the same by every rule
+    let board = guarded(viewer, fact.board());
+    let cell = guarded(viewer, fact.cell());
     for rule in Rule::ALL {
-        if forbids(rule, public, viewer, fact) {
+        if forbids(rule, public, viewer, fact, board, cell) {
             return Some(rule);
         }
     }
     None
 }
 
-/// Whether a rule forbids the fact to the user.
-fn forbids(rule: Rule, public: &Public, viewer: &Viewer, fact: Fact) -> bool
+/// Whether a rule forbids the fact to the user, from whom its board and its cell are guarded.
+fn forbids(
+    rule: Rule,
+    public: &Public,
+    viewer: &Viewer,
+    fact: Fact,
+    board: Option<u8>,
+    cell: Option<Cell>,
+) -> bool
+    requires board { board ≡ guarded viewer.now (board_of_fact fact) }
+    requires cell { cell ≡ guarded viewer.now (cell_of_fact fact) }
     ensures { result ≡ forbids rule public.now viewer.now fact }
 {
-    let board = guarded(viewer, fact.board());
-    let cell = guarded(viewer, fact.cell());
     match rule {
         Rule::NoAccount => viewer.roles.is_none(),
         Rule::NotAMember => !viewer.is_authorized(Role::Member),
