@@ -1,12 +1,13 @@
 #!/usr/bin/env python3
 """Measures what a journal costs an Enter and a Confirm beside the sync: the server's processor time, less what it takes to write and to sync.
 
-    benches/beside_the_sync.py [PROGRAM] [FOLDER] [ROUNDS [SECONDS]]
+    benches/beside_the_sync.py [--beside EARLIER] [PROGRAM] [FOLDER] [ROUNDS [SECONDS]]
 
 Two servers run at the same time, one without a journal and one whose journal lies in the folder, else in the system's for temporary files, and
 get as many commands each in turn, in alternating order: what the rest of the machine does then falls on both alike. The session is that of
 benches/book_time.py: 16 tables, 64 boards, 256 accounts; of five rounds of play a director enters all 64 results, and then confirms them,
-each in a batch of its own, one after another, or with so many seconds between them. Each 64 are measured together, so that looking at the
+each in a batch of its own, one after another, or with so many seconds between them. With `--beside` the server without a journal is
+another program's, one from before there were journals say. Each 64 are measured together, so that looking at the
 clock disturbs none of them. Each round of measuring has two servers of its own.
 
 Processor time is the system's (Linux's schedstat) of the program's whole. What the sync is of it a library counts that is loaded under
@@ -27,10 +28,10 @@ import time
 ROOT = pathlib.Path(__file__).resolve().parent.parent
 sys.path[:0] = [*(str(ROOT / "tests" / folder) for folder in ("drivers", "runs")), str(ROOT / "benches")]
 import book_time  # noqa: E402
-from journal_time import signed_in, spent  # noqa: E402
+from journal_time import program_beside, signed_in, spent  # noqa: E402
 from raw_client import Server  # noqa: E402
 
-WORDS = sys.argv[1:]
+BESIDE, WORDS = program_beside(sys.argv[1:])
 PROGRAM = WORDS[0] if WORDS else "crates/bridge_server/out/bridge_server"
 FOLDER = WORDS[1] if len(WORDS) > 1 else None
 ROUNDS = int(WORDS[2]) if len(WORDS) > 2 else 12
@@ -78,11 +79,11 @@ int fdatasync(int fd) COUNTED(int, syscall(SYS_fdatasync, fd))
 class Measured:
     """A server, a client of it, and what its commands took: all, and of that the sync, in microseconds; and how many calls those were."""
 
-    def __init__(self, room, name, library, *words):
+    def __init__(self, program, room, name, library, *words):
         self.counts = pathlib.Path(room, f"{name}.counts")
         self.counts.write_bytes(bytes(24))
         env = {**os.environ, "LD_PRELOAD": library, "SYNC_TIME": str(self.counts)}
-        self.server = Server(PROGRAM, *words, "--displays", 4, "--workers", 0, session=OPENED, deals=DEALS, env=env)
+        self.server = Server(program, *words, "--displays", 4, "--workers", 0, session=OPENED, deals=DEALS, env=env)
         self.client, self.took = signed_in(self.server), {"Enter": [], "Confirm": []}
 
     def so_far(self):
@@ -101,7 +102,7 @@ class Measured:
 
 def measured(room, library):
     """What the commands of five rounds took without a journal and with one."""
-    both = [Measured(room, "without", library), Measured(room, "kept", library, "--journal", pathlib.Path(room, "kept.journal"))]
+    both = [Measured(BESIDE or PROGRAM, room, "without", library), Measured(PROGRAM, room, "kept", library, "--journal", pathlib.Path(room, "kept.journal"))]
     with both[0].server, both[1].server:
         commands = [command for _, command in itertools.islice(book_time.commands(), 5 * 2 * book_time.BOARDS + 4)]
         for turn, (word, alike) in enumerate(itertools.groupby(commands, lambda command: command["cmd"])):

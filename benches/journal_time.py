@@ -1,13 +1,18 @@
 #!/usr/bin/env python3
 """Measures what a journal's file costs a server: receipts, processor time, queries meanwhile, starts, and the file's size.
 
-    benches/journal_time.py [PROGRAM] [FOLDER] [SECONDS]
+    benches/journal_time.py [--beside EARLIER] [PROGRAM] [FOLDER] [SECONDS [BATCHES]]
 
 The files lie in the folder, else in the system's for temporary files: it decides which disk is measured, and so how long a sync takes.
 Python's standard library is enough. The session is that of benches/book_time.py: 16 tables, 64 boards, 256 accounts; a
 director enters and confirms results, each in a batch of its own, or holds and releases boards. Servers with a journal and without one take
 turns, and each round begins with the other: five rounds, and twenty of queries. Processor time is the system's (Linux's schedstat) of the
 program's whole.
+
+Queries are asked three times over, on four processors, while so many batches a second are entered. First the reading client, the writing one, and the server's thread of each have one of
+their own: what is measured then is how long the server lets a query wait. Then the clients are on one and the server on the others, as where
+clients are other machines; and then they run where the system places them, so that what a client takes of the server's processors is in it.
+With `--beside` the servers without a journal are another program's, one from before there were journals say.
 What a Confirm costs beside the sync benches/beside_the_sync.py and benches/confirm_instructions.py say.
 """
 import json
@@ -26,19 +31,32 @@ from journal_files import change, log_of  # noqa: E402
 from raw_client import Client, Server  # noqa: E402
 from write_stored_runs import text_of  # noqa: E402
 
-WORDS = sys.argv[1:]
+
+
+def program_beside(words):
+    """The program that `--beside` names, and the words without both; else nothing, and the words."""
+    if "--beside" not in words:
+        return None, words
+    place = words.index("--beside")
+    return words[place + 1], words[:place] + words[place + 2:]
+
+
+BESIDE, WORDS = program_beside(sys.argv[1:])
 PROGRAM = WORDS[0] if WORDS else "crates/bridge_server/out/bridge_server"
 FOLDER = WORDS[1] if len(WORDS) > 1 else None
 SECONDS = float(WORDS[2]) if len(WORDS) > 2 else 2
+BATCHES = float(WORDS[3]) if len(WORDS) > 3 else 100
 ROUNDS, QUERY_ROUNDS = 5, 20
 OPENED = book_time.session()
 DEALS = OPENED.pop("pbn")
 ENTRIES = (2_000, 60_000)
+# where clients and threads of the server run while queries are asked
+EACH, APART, FREE = "each on a processor of its own", "the server on other processors than its clients", "wherever the system places them"
 
 
 def server(journal, *more):
     words = [] if journal is None else ["--journal", journal]
-    return Server(PROGRAM, *words, "--displays", 4, "--workers", 0, *more, session=OPENED, deals=DEALS)
+    return Server(BESIDE or PROGRAM if journal is None else PROGRAM, *words, "--displays", 4, "--workers", 0, *more, session=OPENED, deals=DEALS)
 
 
 def signed_in(at):
@@ -91,11 +109,11 @@ def holds(size, before=0):
 
 
 def receipts(folder, kept, size):
-    """How many batches of so many commands a second one client gets receipts of."""
+    """How many batches of so many commands a second one client gets receipts of, until the session has as many as it may have."""
     with server(new_file(folder) if kept else None) as at:
         client, messages, count = signed_in(at), [text_of(holds(size, before)) for before in (0, size)], 0
         begun = time.perf_counter()
-        while time.perf_counter() - begun < SECONDS:
+        while time.perf_counter() - begun < SECONDS and (count + 1) * size <= book_time.COMMANDS:
             assert '"ok"' in client.ask(messages[count % 2])
             count += 1
         return count / (time.perf_counter() - begun)
@@ -114,26 +132,63 @@ def confirms(folder, kept):
 
 
 def enter_batches(at, ends):
-    """Enters batches one after another, a hundred a second. It is a process of its own: threads of one Python wait for one another."""
-    writer = signed_in(at)
+    """Enters batches one after another, so many a second. It is a process of its own: threads of one Python wait for one another."""
+    writer, message = signed_in(at), text_of(holds(2))
     while not ends.is_set():
-        writer.ask(holds(2))
-        time.sleep(0.01)
+        writer.ask(message)
+        time.sleep(1 / BATCHES)
 
 
-def queries(folder, kept):
+def times_of_threads(process):
+    """The processor time of each thread of a process so far."""
+    threads = os.listdir(f"/proc/{process.pid}/task")
+    return {int(thread): int(pathlib.Path(f"/proc/{process.pid}/task/{thread}/schedstat").read_text().split()[0]) for thread in threads}
+
+
+def busiest(process, work):
+    """The thread of a process that runs most while this is done."""
+    before = times_of_threads(process)
+    work()
+    after = times_of_threads(process)
+    return max(after, key=lambda thread: after[thread] - before.get(thread, 0))
+
+
+def give_processors(placing, server, reader, writer, client):
+    """Has this process, the server's thread for its queries, that for batches, and their client run on processors as it is told."""
+    processors = sorted(os.sched_getaffinity(0))[:4]
+    assert reader != writer and len(processors) == 4, "queries and batches want a thread each, and these and the clients a processor each"
+    first, second, third, fourth = ({processor} for processor in processors)
+    if placing == EACH:
+        places, others = {0: first, reader: second, writer: third, client: fourth}, fourth
+    else:
+        places, others = {0: first, client: first}, second | third | fourth
+    for thread in (0, client, *times_of_threads(server)):
+        os.sched_setaffinity(thread, places.get(thread, others))
+
+
+def queries(folder, kept, placing):
     """Microseconds of a query while another client's batches are entered one after another: the median, and the 99th of a hundred."""
+    everywhere = os.sched_getaffinity(0)
     with server(new_file(folder) if kept else None) as at:
-        ends = multiprocessing.Event()
+        ends, reader, took = multiprocessing.Event(), signed_in(at), []
+
+        def ask(seconds):
+            until = time.perf_counter() + seconds
+            while (begun := time.perf_counter()) < until:
+                reader.ask('{"ask":"board","board":1}')
+                took.append(1e6 * (time.perf_counter() - begun))
+
+        of_queries = busiest(at.process, lambda: ask(0.1))
         writing = multiprocessing.Process(target=enter_batches, args=(at, ends))
         writing.start()
-        reader, took = signed_in(at), []
-        until = time.perf_counter() + SECONDS
-        while (begun := time.perf_counter()) < until:
-            reader.ask('{"ask":"board","board":1}')
-            took.append(1e6 * (time.perf_counter() - begun))
+        of_batches = busiest(at.process, lambda: time.sleep(0.3))
+        if placing != FREE:
+            give_processors(placing, at.process, of_queries, of_batches, writing.pid)
+        took.clear()
+        ask(SECONDS)
         ends.set()
         writing.join()
+        os.sched_setaffinity(0, everywhere)
         return statistics.median(took), statistics.quantiles(took, n=100)[98]
 
 
@@ -203,11 +258,12 @@ def main():
         print(f"as many writes and syncs by themselves: {system_time(folder):.0f} microseconds of processor time", flush=True)
         for word, one, other in zip(("an Enter", "a Confirm"), without, kept):
             print(f"processor time of {word}: {one:.0f} microseconds without a journal, {other:.0f} with one: {other / one:.2f} times", flush=True)
-        without, kept = in_turns(queries, folder, rounds=QUERY_ROUNDS)
-        for what, one, other in zip(("the median", "the 99th of a hundred"), zip(*without), zip(*kept)):
-            slower = sum(after > before for before, after in zip(one, other))
-            print(f"a query while batches are entered, {what}: {statistics.median(one):.0f} microseconds without a journal, "
-                  f"{statistics.median(other):.0f} with one, which is slower in {slower} of {QUERY_ROUNDS} rounds", flush=True)
+        for placing in (EACH, APART, FREE):
+            without, kept = in_turns(queries, folder, placing, rounds=QUERY_ROUNDS)
+            for what, one, other in zip(("the median", "the 99th of a hundred"), zip(*without), zip(*kept)):
+                slower = sum(after > before for before, after in zip(one, other))
+                print(f"a query while batches are entered, {placing}, {what}: {statistics.median(one):.0f} microseconds without a journal, "
+                      f"{statistics.median(other):.0f} with one, which is slower in {slower} of {QUERY_ROUNDS} rounds", flush=True)
         for count in ENTRIES:
             seconds, size, log = starts(folder, count)
             print(f"a start with {count} entries: {seconds:.2f} s; the file has {size} bytes, and its log {log}", flush=True)
