@@ -6,9 +6,9 @@
 Two servers run at the same time, one without a journal and one whose journal lies in the folder, else in the system's for temporary files, and
 get as many commands each in turn, in alternating order: what the rest of the machine does then falls on both alike. The session is that of
 benches/book_time.py: 16 tables, 64 boards, 256 accounts; of five rounds of play a director enters all 64 results, and then confirms them,
-each in a batch of its own, one after another, or with so many seconds between them. With `--beside` the server without a journal is
-another program's, one from before there were journals say. Each 64 are measured together, so that looking at the
-clock disturbs none of them. Each round of measuring has two servers of its own.
+each in a batch of its own, one after another, or with so many seconds between them. Each 64 are measured together, so that looking at the
+clock disturbs none of them. Each round of measuring has two servers of its own. With `--beside` the server without a journal is another
+program's, one from before there were journals say.
 
 Processor time is the system's (Linux's schedstat) of the program's whole. What the sync is of it a library counts that is loaded under
 the program (LD_PRELOAD): the processor time of the thread in its calls of pwrite, fdatasync and fsync, of which a server makes none without a

@@ -9,11 +9,11 @@ director enters and confirms results, each in a batch of its own, or holds and r
 turns, and each round begins with the other: five rounds, and twenty of queries. Processor time is the system's (Linux's schedstat) of the
 program's whole.
 
-Queries are asked three times over, on four processors, while so many batches a second are entered. First the reading client, the writing one, and the server's thread of each have one of
-their own: what is measured then is how long the server lets a query wait. Then the clients are on one and the server on the others, as where
-clients are other machines; and then they run where the system places them, so that what a client takes of the server's processors is in it.
-With `--beside` the servers without a journal are another program's, one from before there were journals say.
-What a Confirm costs beside the sync benches/beside_the_sync.py and benches/confirm_instructions.py say.
+Queries are asked three times over, on four processors, while so many batches a second are entered. First the reading client, the writing
+one, and the server's thread of each have one of their own: what is measured then is how long the server lets a query wait. Then the clients are
+on one and the server on the others, as where clients are other machines; and then they run where the system places them, so that what a
+client takes of the server's processors is in it. With `--beside` the servers without a journal are another program's, one from before there
+were journals say. What a Confirm costs beside the sync benches/beside_the_sync.py and benches/confirm_instructions.py say.
 """
 import json
 import multiprocessing
