@@ -65,10 +65,15 @@ def signed_in(at):
     return client
 
 
+def times_of_threads(process):
+    """The processor time of each thread of a process so far, in nanoseconds."""
+    threads = os.listdir(f"/proc/{process.pid}/task")
+    return {int(thread): int(pathlib.Path(f"/proc/{process.pid}/task/{thread}/schedstat").read_text().split()[0]) for thread in threads}
+
+
 def spent(process):
     """The processor time of all threads of a process so far, in seconds."""
-    tasks = pathlib.Path(f"/proc/{process.pid}/task").iterdir()
-    return sum(int((task / "schedstat").read_text().split()[0]) for task in tasks) / 1e9
+    return sum(times_of_threads(process).values()) / 1e9
 
 
 def new_file(folder):
@@ -139,12 +144,6 @@ def enter_batches(at, ends):
         time.sleep(1 / BATCHES)
 
 
-def times_of_threads(process):
-    """The processor time of each thread of a process so far."""
-    threads = os.listdir(f"/proc/{process.pid}/task")
-    return {int(thread): int(pathlib.Path(f"/proc/{process.pid}/task/{thread}/schedstat").read_text().split()[0]) for thread in threads}
-
-
 def busiest(process, work):
     """The thread of a process that runs most while this is done."""
     before = times_of_threads(process)
@@ -154,7 +153,7 @@ def busiest(process, work):
 
 
 def give_processors(placing, server, reader, writer, client):
-    """Has this process, the server's thread for its queries, that for batches, and their client run on processors as it is told."""
+    """Places this process, the server's thread for its queries, that for batches, and the client that enters these."""
     processors = sorted(os.sched_getaffinity(0))[:4]
     assert reader != writer and len(processors) == 4, "queries and batches want a thread each, and these and the clients a processor each"
     first, second, third, fourth = ({processor} for processor in processors)
