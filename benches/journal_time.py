@@ -1,7 +1,7 @@
 #!/usr/bin/env python3
 """Measures what a journal's file costs a server: receipts, processor time, queries meanwhile, starts, and the file's size.
 
-    benches/journal_time.py [--beside EARLIER] [PROGRAM] [FOLDER] [SECONDS [BATCHES]]
+    benches/journal_time.py [--beside EARLIER] [--queries] [PROGRAM] [FOLDER] [SECONDS [BATCHES]]
 
 The files lie in the folder, else in the system's for temporary files: it decides which disk is measured, and so how long a sync takes.
 Python's standard library is enough. The session is that of benches/book_time.py: 16 tables, 64 boards, 256 accounts; a
@@ -9,12 +9,15 @@ director enters and confirms results, each in a batch of its own, or holds and r
 turns, and each round begins with the other: five rounds, and twenty of queries. Processor time is the system's (Linux's schedstat) of the
 program's whole.
 
-Queries are asked three times over, on four processors, while so many batches a second are entered. First the reading client, the writing
+Queries are asked four times over, on four processors, while so many batches a second are entered. First the reading client, the writing
 one, and the server's thread of each have one of their own: what is measured then is how long the server lets a query wait. Then the clients are
-on one and the server on the others, as where clients are other machines; and then they run where the system places them, so that what a
-client takes of the server's processors is in it. With `--beside` the servers without a journal are another program's, one from before there
-were journals say. What a Confirm costs beside the sync benches/beside_the_sync.py and benches/confirm_instructions.py say.
+on one and the server on the others, as where clients are other machines. Then they run where the system places them, so that what a
+client takes of the server's processors is in it; and at last so again, while each processor has a loop of the system's idle class, which gives
+way to all else: a virtual processor that has nothing to do is halted, and the system puts a thread that wakes beside another rather than there.
+With `--beside` the servers without a journal are another program's, one from before there
+were journals say; with `--queries` nothing else is measured. What a Confirm costs beside the sync benches/beside_the_sync.py and benches/confirm_instructions.py say.
 """
+import contextlib
 import json
 import multiprocessing
 import os
@@ -42,6 +45,8 @@ def program_beside(words):
 
 
 BESIDE, WORDS = program_beside(sys.argv[1:])
+ONLY_QUERIES = "--queries" in WORDS
+WORDS = [word for word in WORDS if word != "--queries"]
 PROGRAM = WORDS[0] if WORDS else "crates/bridge_server/out/bridge_server"
 FOLDER = WORDS[1] if len(WORDS) > 1 else None
 SECONDS = float(WORDS[2]) if len(WORDS) > 2 else 2
@@ -52,6 +57,8 @@ DEALS = OPENED.pop("pbn")
 ENTRIES = (2_000, 60_000)
 # where clients and threads of the server run while queries are asked
 EACH, APART, FREE = "each on a processor of its own", "the server on other processors than its clients", "wherever the system places them"
+# the same, on processors that are never halted
+AWAKE = "wherever the system places them, no processor halted"
 
 
 def server(journal, *more):
@@ -165,10 +172,32 @@ def give_processors(placing, server, reader, writer, client):
         os.sched_setaffinity(thread, places.get(thread, others))
 
 
+def keep_awake(processor):
+    """A loop that runs on a processor where nothing else wants to."""
+    os.sched_setaffinity(0, {processor})
+    os.sched_setscheduler(0, os.SCHED_IDLE, os.sched_param(0))
+    while True:
+        pass
+
+
+@contextlib.contextmanager
+def awake(placing):
+    """What keeps the processors from being halted, if it is to."""
+    loops = [multiprocessing.Process(target=keep_awake, args=(processor,)) for processor in os.sched_getaffinity(0)] if placing == AWAKE else []
+    for loop in loops:
+        loop.start()
+    try:
+        yield
+    finally:
+        for loop in loops:
+            loop.kill()
+            loop.join()
+
+
 def queries(folder, kept, placing):
     """Microseconds of a query while another client's batches are entered one after another: the median, and the 99th of a hundred."""
     everywhere = os.sched_getaffinity(0)
-    with server(new_file(folder) if kept else None) as at:
+    with awake(placing), server(new_file(folder) if kept else None) as at:
         ends, reader, took = multiprocessing.Event(), signed_in(at), []
 
         def ask(seconds):
@@ -181,7 +210,7 @@ def queries(folder, kept, placing):
         writing = multiprocessing.Process(target=enter_batches, args=(at, ends))
         writing.start()
         of_batches = busiest(at.process, lambda: time.sleep(0.3))
-        if placing != FREE:
+        if placing in (EACH, APART):
             give_processors(placing, at.process, of_queries, of_batches, writing.pid)
         took.clear()
         ask(SECONDS)
@@ -245,8 +274,21 @@ def in_turns(measure, *words, rounds=ROUNDS):
     return found[False], found[True]
 
 
+def tell_queries(folder):
+    """Queries beside batches, in each placing."""
+    for placing in (EACH, APART, FREE, AWAKE):
+        without, kept = in_turns(queries, folder, placing, rounds=QUERY_ROUNDS)
+        for what, one, other in zip(("the median", "the 99th of a hundred"), zip(*without), zip(*kept)):
+            slower = sum(after > before for before, after in zip(one, other))
+            print(f"a query while batches are entered, {placing}, {what}: {statistics.median(one):.0f} microseconds without a journal, "
+                  f"{statistics.median(other):.0f} with one, which is slower in {slower} of {QUERY_ROUNDS} rounds", flush=True)
+
+
 def main():
     with tempfile.TemporaryDirectory(dir=FOLDER) as folder:
+        if ONLY_QUERIES:
+            tell_queries(folder)
+            return
         median, late = sync_time(folder)
         print(f"a write of 4,096 bytes is synced in {median:.0f} microseconds (the 99th of a hundred: {late:.0f})", flush=True)
         for size in (1, 8):
@@ -257,12 +299,7 @@ def main():
         print(f"as many writes and syncs by themselves: {system_time(folder):.0f} microseconds of processor time", flush=True)
         for word, one, other in zip(("an Enter", "a Confirm"), without, kept):
             print(f"processor time of {word}: {one:.0f} microseconds without a journal, {other:.0f} with one: {other / one:.2f} times", flush=True)
-        for placing in (EACH, APART, FREE):
-            without, kept = in_turns(queries, folder, placing, rounds=QUERY_ROUNDS)
-            for what, one, other in zip(("the median", "the 99th of a hundred"), zip(*without), zip(*kept)):
-                slower = sum(after > before for before, after in zip(one, other))
-                print(f"a query while batches are entered, {placing}, {what}: {statistics.median(one):.0f} microseconds without a journal, "
-                      f"{statistics.median(other):.0f} with one, which is slower in {slower} of {QUERY_ROUNDS} rounds", flush=True)
+        tell_queries(folder)
         for count in ENTRIES:
             seconds, size, log = starts(folder, count)
             print(f"a start with {count} entries: {seconds:.2f} s; the file has {size} bytes, and its log {log}", flush=True)
