@@ -14,8 +14,9 @@ one, and the server's thread of each have one of their own: what is measured the
 on one and the server on the others, as where clients are other machines. Then they run where the system places them, so that what a
 client takes of the server's processors is in it; and at last so again, while each processor has a loop of the system's idle class, which gives
 way to all else: a virtual processor that has nothing to do is halted, and the system puts a thread that wakes beside another rather than there.
-With `--beside` the servers without a journal are another program's, one from before there
-were journals say; with `--queries` nothing else is measured. What a Confirm costs beside the sync benches/beside_the_sync.py and benches/confirm_instructions.py say.
+
+With `--beside` the servers without a journal are another program's, one from before there were journals say; with `--queries` nothing else is
+measured. What a Confirm costs beside the sync benches/beside_the_sync.py and benches/confirm_instructions.py say.
 """
 import contextlib
 import json
@@ -33,7 +34,6 @@ import book_time  # noqa: E402
 from journal_files import change, log_of  # noqa: E402
 from raw_client import Client, Server  # noqa: E402
 from write_stored_runs import text_of  # noqa: E402
-
 
 
 def program_beside(words):
