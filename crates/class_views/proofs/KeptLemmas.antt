@@ -49,6 +49,7 @@ use Rattle.class_views.specs.Totals.{IsSameOn, earnings_on, told_board}
 use Rattle.class_views.specs.Kept.{
   AreWithinBoard,
   AreStandings,
+  CountsSame,
   IsBoardOf,
   IsChangedAt,
   IsClassKept,
@@ -56,6 +57,7 @@ use Rattle.class_views.specs.Kept.{
   IsKept,
   IsKeptOf,
   IsNothing,
+  IsTotalWith,
   IsWithinBoard,
   boards_with,
   counted_to,
@@ -144,6 +146,27 @@ module _ (own boards : ℕ) (sees sees_now : ℕ → Bool) (earned earned_now : 
       cut : (s f g n top : ℕ) → n + f ≡ s + g → f ≤ s → n ≤ top → top ≤ most_total → min (s - f + g) most_total ≡ n
       cut s f g n top changed has most fits = omega (arith, changed, has, most, fits)
 
+  -- where it counts what it did, all boards together do
+  total_left : (count : Earning → ℕ) → where_seen (sees own) (sum_by count (earned own)) ≡ where_seen (sees_now own)
+      (sum_by count (earned_now own)) → counted_to count sees earned boards ≡ counted_to count sees_now earned_now boards
+  unfolding counted_to
+  total_left count here = sum_same g f 1 boards each
+    where
+      f : ℕ → ℕ
+      f board = where_seen (sees board) (sum_by count (earned board))
+
+      g : ℕ → ℕ
+      g board = where_seen (sees_now board) (sum_by count (earned_now board))
+
+      each : (m : ℕ) → 1 ≤ m → m < 1 + boards → f m ≡ g m
+      each m low high =
+          elim (cases_eq m own) [
+            | inl is ↦ subst (λ n. f n ≡ g n) (sym is) here
+            | inr other ↦
+                sym (λ i. where_seen (seen m other low (omega (arith, high)) i)
+                (sum_by count (earns m other low (omega (arith, high)) i)))
+          ]
+
 -- ---- a class
 
 itself : (n : ℕ) → nat_eq n n ≡ true
@@ -187,12 +210,30 @@ module _ (own boards : ℕ) (sees sees_now : ℕ → Bool) (earned earned_now : 
               ∙ (kept.seen board low high ∙ sym (seen board other low high)))
         ];
     totals = λ place d below.
-        step.totals place d below
-        ∙ ((λ i. total_with (kept.seen own from to i) (were place d below i) (sees_now own) (are place d below i)
-        (kept.totals place d below i))
-        ∙ summed place below);
+        elim (step.totals place d below) [
+          | inl is ↦
+              is
+              ∙ ((λ i. total_with (kept.seen own from to i) (were place d below i) (sees_now own) (are place d below i)
+              (kept.totals place d below i))
+              ∙ summed place below)
+          | inr left ↦ left.1 ∙ (kept.totals place d below ∙ stays place d below left.0)
+        ];
   }
     where
+      stays : (place : ℕ) (d : Standing) → place < 32 →
+          CountsSame (has_number before.boards own) (get_or old place d) (sees_now own) (get_or new place d) →
+          total_to sees earned boards (pair_at place) ≡ total_to sees_now earned_now boards (pair_at place)
+      stays place d below counts =
+          let earned_same = total_left own boards sees sees_now earned earned_now from to few seen earns
+          (earned_by (pair_at place))
+          (sym (λ i. where_seen (kept.seen own from to i) (were place d below i).earned)
+          ∙ (counts.earned ∙ (λ i. where_seen (sees_now own) (are place d below i).earned))) in
+          let tops_same = total_left own boards sees sees_now earned earned_now from to few seen earns
+          (top_for (pair_at place))
+          (sym (λ i. where_seen (kept.seen own from to i) (were place d below i).tops)
+          ∙ (counts.tops ∙ (λ i. where_seen (sees_now own) (are place d below i).tops))) in
+          λ i. record { pair = pair_at place; earned = earned_same i; tops = tops_same i }
+
       summed : (place : ℕ) → place < 32 →
           total_with (sees own) (standing_of (earned own) (pair_at place)) (sees_now own)
           (standing_of (earned_now own) (pair_at place)) (total_to sees earned boards (pair_at place))
@@ -310,9 +351,9 @@ pub with_row : (own : ℕ) (sees : Bool) (old new row : List Standing) (before a
 with_row own sees old new row before after earned is_new is_row step = record {
   boards = step.boards;
   totals = λ place d below.
-      step.totals place d below
-      ∙ ap (λ standing. total_with (has_number before.boards own) (get_or old place d) sees standing
-      (get_or before.totals place d)) (is_new place d below ∙ sym (is_row place d below));
+      subst (λ standing. IsTotalWith (has_number before.boards own) (get_or old place d) sees standing
+      (get_or before.totals place d) (get_or after.totals place d))
+      (is_new place d below ∙ sym (is_row place d below)) (step.totals place d below);
 }
 
 -- so what is kept stays as it would be worked out afresh, where the others are as they were

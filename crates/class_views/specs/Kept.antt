@@ -5,6 +5,7 @@ use Rattle.std.specs.Prelude.{
   ◌≢◌,
   ◌≤◌,
   ◌<◌,
+  ◌⊎◌,
   ℕ,
   ◌+◌,
   ◌-◌,
@@ -54,6 +55,10 @@ pub record IsWithinBoard (standing : Standing) : Type 0 where
 
 abbrev pub AreWithinBoard : List Standing → Type 0
 AreWithinBoard standings = (place : ℕ) (d : Standing) → place < pair_places → IsWithinBoard (get_or standings place d)
+
+-- and each pair stands by one list of them as by the other
+abbrev pub AreAlike : List Standing → List Standing → Type 0
+AreAlike one other = (place : ℕ) (d : Standing) → place < pair_places → get_or one place d ≡ get_or other place d
 
 -- a number where a test holds, and else nothing
 abbrev pub where_seen : Bool → ℕ → ℕ
@@ -122,6 +127,16 @@ total_with saw old sees new total = record {
   tops = min (total.tops - where_seen saw old.tops + where_seen sees new.tops) most_total;
 }
 
+-- a board counts for a pair now what it counted before: nothing where it isn't seen, and else what it earns the pair
+pub record CountsSame (saw : Bool) (old : Standing) (sees : Bool) (new : Standing) : Type 0 where
+  pub earned : where_seen saw old.earned ≡ where_seen sees new.earned
+  pub tops : where_seen saw old.tops ≡ where_seen sees new.tops
+
+-- a total has what a board counts now in place of what it counted, or is as it was where the board counts the same
+abbrev pub IsTotalWith : Bool → Standing → Bool → Standing → Standing → Standing → Type 0
+IsTotalWith saw old sees new before after =
+    (after ≡ total_with saw old sees new before) ⊎ (CountsSame saw old sees new × (after ≡ before))
+
 -- a set of boards with a board or without it
 abbrev pub boards_with : Bool → List ℕ → ℕ → List ℕ
 boards_with sees boards board =
@@ -131,9 +146,8 @@ boards_with sees boards board =
 pub record IsClassWith (board : ℕ) (sees : Bool) (old new : List Standing) (before after : ClassView) : Type 0 where
   pub boards : after.boards ≡ boards_with sees before.boards board
   pub totals : (place : ℕ) (d : Standing) → place < pair_places →
-      get_or after.totals place d
-      ≡ total_with (has_number before.boards board) (get_or old place d) sees (get_or new place d)
-      (get_or before.totals place d)
+      IsTotalWith (has_number before.boards board) (get_or old place d) sees (get_or new place d)
+      (get_or before.totals place d) (get_or after.totals place d)
 
 -- what is kept takes in what a board is now: its row is what its results earn, each class has it among its boards where it
 -- sees it, and the totals have what it counts now in place of what it counted. Whatever was kept of another board stays

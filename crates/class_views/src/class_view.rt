@@ -1,8 +1,8 @@
-ghost use Rattle.std.specs.Prelude.{◌≡◌, ◌≤◌, ◌<◌, ℕ, Some, length, get_or, IfOk, [], vec_len};
+ghost use Rattle.std.specs.Prelude.{◌≡◌, ◌≤◌, ◌<◌, ℕ, true, Some, length, get_or, IfOk, [], vec_len};
 ghost use Rattle.movement.specs.Movement.{most_boards};
 ghost use Rattle.class_views.specs.Classes.{class_sees, is_shown_boards, without_embargo};
 ghost use Rattle.class_views.specs.declared.class_view.ClassView.{ClassView};
-ghost use Rattle.class_views.specs.Kept.{AreStandings, IsClassWith, boards_with};
+ghost use Rattle.class_views.specs.Kept.{AreAlike, AreStandings, IsClassWith, boards_with};
 ghost use Rattle.class_views.specs.Places.{class_at, class_places};
 
 use crate::pair_totals::PairTotals;
@@ -29,13 +29,21 @@ impl ClassView {
     }
 
     /// Takes in what a board counts now in place of what it counted, and whether it is seen now.
-    pub(crate) fn change(&mut self, board: u8, sees: bool, old: &PairTotals, new: &PairTotals)
+    pub(crate) fn change(
+        &mut self,
+        board: u8,
+        sees: bool,
+        old: &PairTotals,
+        new: &PairTotals,
+        is_same: bool,
+    )
         requires from { 1 ≤ board }
         requires to { board ≤ most_boards }
+        requires same { is_same ≡ true → AreAlike old.now new.now }
         ensures { IsClassWith board sees old.now new.now self.old self.new }
     {
         let saw = self.boards.contains(board);
-        self.totals.change(saw, old, sees, new);
+        self.totals.change(saw, old, sees, new, is_same);
         put_board(&mut self.boards, board, sees);
     }
 }
@@ -70,10 +78,53 @@ pub(crate) fn change_each(
         IsClassWith board (class_sees (without_embargo public.now) (Some (class_at place)) board) old.now new.now
         (get_or classes.old.items place d) (get_or classes.new.items place d) }
 {
-    let lifted = without_embargo(public);
+    if public.embargo {
+        change_lifted(classes, public, board, old, new);
+    } else {
+        change_seen(classes, public, board, old, new);
+    }
+}
+
+// The copy is large, and an embargo rare: in a function of its own it costs nothing where there is none.
+#[inline(never)]
+fn change_lifted(
+    classes: &mut Vec<ClassView>,
+    public: &Public,
+    board: u8,
+    old: &PairTotals,
+    new: &PairTotals,
+)
+    requires from { 1 ≤ board }
+    requires to { board ≤ most_boards }
+    requires each { vec_len classes.old ≡ class_places }
+    ensures each { vec_len classes.new ≡ class_places }
+    ensures classes { (place : ℕ) (d : ClassView) → place < class_places →
+        IsClassWith board (class_sees (without_embargo public.now) (Some (class_at place)) board) old.now new.now
+        (get_or classes.old.items place d) (get_or classes.new.items place d) }
+{
+    change_seen(classes, &without_embargo(public), board, old, new);
+}
+
+/// Each class takes in what a board counts now in place of what it counted, and whether it is seen now.
+fn change_seen(
+    classes: &mut Vec<ClassView>,
+    public: &Public,
+    board: u8,
+    old: &PairTotals,
+    new: &PairTotals,
+)
+    requires from { 1 ≤ board }
+    requires to { board ≤ most_boards }
+    requires each { vec_len classes.old ≡ class_places }
+    ensures each { vec_len classes.new ≡ class_places }
+    ensures classes { (place : ℕ) (d : ClassView) → place < class_places →
+        IsClassWith board (class_sees public.now (Some (class_at place)) board) old.now new.now
+        (get_or classes.old.items place d) (get_or classes.new.items place d) }
+{
+    let is_same = old.agrees(new);
     for place in 0..CLASSES {
-        let sees = sees(&lifted, UserClass::at(place), board);
-        classes[place as usize].change(board, sees, old, new);
+        let sees = sees(public, UserClass::at(place), board);
+        classes[place as usize].change(board, sees, old, new, is_same);
     }
 }
 

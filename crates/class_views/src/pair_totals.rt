@@ -1,7 +1,7 @@
-ghost use Rattle.std.specs.Prelude.{◌≡◌, ◌≤◌, ◌<◌, ℕ, [], length, get_or, IfOk, vec_len};
+ghost use Rattle.std.specs.Prelude.{◌≡◌, ◌≤◌, ◌<◌, ℕ, true, [], length, get_or, IfOk, vec_len};
 ghost use Rattle.movement.specs.Movement.{most_tables};
 ghost use Rattle.scoring.specs.declared.standing.Standing.{Standing};
-ghost use Rattle.class_views.specs.Kept.{AreWithinBoard, AreStandings, total_with, where_seen};
+ghost use Rattle.class_views.specs.Kept.{AreAlike, AreWithinBoard, AreStandings, IsTotalWith, total_with, where_seen};
 ghost use Rattle.class_views.specs.Places.{pair_places};
 
 use crate::user_class::{PAIRS, pair_at};
@@ -62,13 +62,36 @@ impl PairTotals {
         stand(&mut self.standings, earnings);
     }
 
-    /// Puts what a board counts now in place of what it counted, each where it is seen.
-    pub(crate) fn change(&mut self, saw: bool, old: &PairTotals, sees: bool, new: &PairTotals)
-        ensures { (place : ℕ) (d : Standing) → place < pair_places →
-            get_or self.new place d
-            ≡ total_with saw (get_or old.now place d) sees (get_or new.now place d) (get_or self.old place d) }
+    /// Whether each pair stands by these as by the others.
+    pub(crate) fn agrees(&self, other: &PairTotals) -> bool
+        ensures { result ≡ true → AreAlike self.now other.now }
     {
-        change(&mut self.standings, saw, old, sees, new);
+        for place in 0..PAIRS {
+            if !is_same_standing(self.at(place), other.at(place)) {
+                return false;
+            }
+        }
+        true
+    }
+
+    /// Puts what a board counts now in place of what it counted, each where it is seen. Most entries change nothing
+    /// of what it counts for a class: then the totals are left alone.
+    pub(crate) fn change(
+        &mut self,
+        saw: bool,
+        old: &PairTotals,
+        sees: bool,
+        new: &PairTotals,
+        is_same: bool,
+    )
+        requires { is_same ≡ true → AreAlike old.now new.now }
+        ensures { (place : ℕ) (d : Standing) → place < pair_places →
+            IsTotalWith saw (get_or old.now place d) sees (get_or new.now place d) (get_or self.old place d)
+            (get_or self.new place d) }
+    {
+        if saw != sees || (sees && !is_same) {
+            change(&mut self.standings, saw, old, sees, new);
+        }
     }
 }
 
@@ -83,6 +106,13 @@ fn stand(standings: &mut Vec<Standing>, earnings: &[Earning])
     for place in 0..PAIRS {
         standings[place as usize] = standing_of(earnings, pair_at(place));
     }
+}
+
+/// Whether two standings are the same.
+fn is_same_standing(one: Standing, other: Standing) -> bool
+    ensures { result ≡ true → one ≡ other }
+{
+    one.earned == other.earned && one.tops == other.tops && one.pair == other.pair
 }
 
 /// Changes each pair's standing by what a board counts.
