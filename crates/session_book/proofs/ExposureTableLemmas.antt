@@ -1,42 +1,6 @@
 -- The table of who was shown something of which board: what it has after the policy was asked, and one entry more.
-use Rattle.std.proofs.Common.{
-  ◌≡◌,
-  ◌≢◌,
-  ℕ,
-  zero,
-  suc,
-  ◌+◌,
-  ◌-◌,
-  ◌*◌,
-  ◌^◌,
-  ◌%◌,
-  ◌<◌,
-  ◌≤◌,
-  Bool,
-  true,
-  false,
-  List,
-  [],
-  ◌∷◌,
-  ◌++◌,
-  map,
-  length,
-  get_or,
-  replicate,
-  nat_eq,
-  bit_or,
-  w64,
-  refl,
-  sym,
-  ap,
-  ◌∙◌,
-  subst,
-  inl,
-  inr,
-  arith,
-}
+use Rattle.std.proofs.Common.{◌≡◌, ◌≢◌, ℕ, zero, suc, ◌+◌, ◌<◌, ◌≤◌, Bool, true, false, List, [], ◌∷◌, ◌++◌, map, length, get_or, replicate, nat_eq, refl, sym, ap, ◌∙◌, subst, inl, inr, arith}
 use Rattle.std.specs.Prelude.{◌||◌, ◌&&◌, nat_le, nat_lt, Contains, slice_set}
-use Rattle.std.specs.Int.{bit_at}
 use Rattle.std.proofs.lemmas.Bool.{
   cases_Bool,
   cases_lt,
@@ -56,16 +20,7 @@ use Rattle.std.proofs.lemmas.Bool.{
   false≢true,
   false_from_ne_true,
 }
-use Rattle.std.proofs.lemmas.List.{
-  length-map,
-  get_or-map,
-  get_or_default,
-  get_or_append_left,
-  get_or-set_same,
-  get_or-set_other,
-  map-set,
-  length-append,
-}
+use Rattle.std.proofs.lemmas.List.{length-map, get_or-map, get_or_append_left, get_or-set_same, get_or-set_other, length-append}
 use Rattle.std.specs.Prelude.{Option, Some, None, find, Any, IsSomeAnd}
 use Rattle.movement.specs.declared.cell.Cell.{Cell}
 use Rattle.movement.specs.Movement.{IsCell, HasCell, rows}

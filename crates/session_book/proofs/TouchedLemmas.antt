@@ -47,7 +47,15 @@ use Rattle.session_commands.specs.declared.entry.Entry.{Entry}
 use Rattle.session_commands.specs.declared.touched.Touched.{Touched}
 use Rattle.session_commands.specs.declared.touched.Touched.TheVariants.{Nothing, Board, User, Everything}
 use Rattle.session_book.specs.Exposure.{sees_hands, is_exposed, users_of}
-use Rattle.session_book.specs.ExposureTable.{is_noted, user_at, IsAsked, one_board, first_boards, IsNoted}
+use Rattle.session_book.specs.ExposureTable.{
+  is_noted,
+  user_at,
+  IsAsked,
+  one_board,
+  first_boards,
+  first_users,
+  IsNoted,
+}
 use Rattle.session_book.specs.Replay.{replay}
 use Rattle.session_commands.specs.Command.{touched_by}
 use Rattle.session_book.specs.Touched.{is_touched, is_touched_at, touched_at, touched_before}
@@ -129,6 +137,15 @@ not_named_at state last place p b user name here other =
 pub everything_at : (state : SessionState) (last place p b : ℕ) → touched_at state Everything last place p b ≡
     first_boards place last p b
 everything_at state last place p b = ap (λ x. nat_eq p place && x) (all (nat_le 1 b && nat_le b last))
+  where
+    all : (x : Bool) → (x && true) ≡ x
+    all true = refl
+    all false = refl
+
+-- at everything, for each user before a place
+pub everything_before : (state : SessionState) (last n p b : ℕ) → touched_before state Everything last n p b ≡
+    first_users n last p b
+everything_before state last n p b = ap (λ x. nat_lt p n && x) (all (nat_le 1 b && nat_le b last))
   where
     all : (x : Bool) → (x && true) ≡ x
     all true = refl

@@ -18,8 +18,11 @@ use Rattle.std.specs.Prelude.{
   slice_index_or,
 }
 use Rattle.movement.specs.Movement.{boards_of, most_boards}
+use Rattle.disclosure_rules.specs.LiveCells.{tables_at}
 use Rattle.disclosure_rules.specs.Policy.{first_rule}
+use Rattle.disclosure_rules.specs.Seating.{is_complete}
 use Rattle.disclosure_rules.specs.declared.fact.Fact.TheVariants.{Hands}
+use Rattle.disclosure_rules.specs.declared.public.Public.{Public}
 use Rattle.disclosure_rules.specs.declared.viewer.Viewer.{Viewer}
 use Rattle.small_sets.specs.Numbers.{has_number}
 use Rattle.session_commands.specs.declared.entry.Entry.{Entry}
@@ -39,6 +42,11 @@ abbrev pub SeesAs : SessionState → ℕ → Viewer → Type 0
 SeesAs state place viewer =
     (board : ℕ) → is_none (first_rule state.public viewer (Hands board))
     ≡ sees_hands state (user_at state place) board
+
+-- no table has a result on the board, and it isn't complete
+pub record IsUnplayed (public : Public) (board : ℕ) : Type 0 where
+  pub nowhere : tables_at public.live board ≡ []
+  pub incomplete : is_complete public board ≡ false
 
 -- the table, after the policy was asked about some users and boards: a pair that was asked about is noted if it was, or
 -- if the user is allowed the hands; the others are as they were

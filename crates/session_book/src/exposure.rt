@@ -7,8 +7,9 @@ ghost use Rattle.session_book.specs.Touched.{touched_at, touched_before};
 ghost use Rattle.session_commands.specs.declared.touched.Touched.TheVariants.{Board, User};
 ghost use Rattle.session_book.specs.ExposureTable.{is_noted, user_at, SeesAs, IsAsked, IsNoted, one_board, first_boards, first_users};
 
+use crate::board_sight::BoardSight;
 use disclosure_rules::{Boards, Fact, Viewer, decide};
-use rbac::Roles;
+use rbac::{Account, Roles};
 use session_commands::Touched;
 use session_commands::room::filled;
 use session_roles::Role;
@@ -123,42 +124,64 @@ impl Exposure {
         ensures valid { IsValid state.now.roles }
     {
         let accounts = state.accounts();
-        for place in 0..accounts.len() {
-            self.ask_user(state, place, accounts[place].name, touched, boards);
-        }
-    }
-
-    // Notes what the user at a place is allowed of what is touched.
-    fn ask_user(&mut self, state: &State, place: usize, user: Name, touched: &Touched, boards: u8)
-        requires room { place < most_users }
-        requires place { place < length state.now.roles.accounts }
-        requires user { user ≡ user_at state.now place }
-        requires boards { boards ≤ most_boards }
-        ensures { IsAsked state.now (touched_at state.now touched.now boards place) self.old self.new }
-    {
         match touched {
             Touched::Nothing => {}
-            Touched::Board(board) => self.ask_within(state, place, user, *board, boards),
-            Touched::User(name) => self.ask_named(state, place, user, *name, boards),
-            Touched::Everything => self.ask_boards(state, place, user, boards),
+            Touched::Board(board) => self.ask_board(state, accounts, *board, boards),
+            Touched::User(name) => self.ask_user(state, accounts, *name, boards),
+            Touched::Everything => self.ask_all(state, boards),
         }
     }
 
-    // Notes a board for the user at a place, if it is one of the first.
-    fn ask_within(&mut self, state: &State, place: usize, user: Name, board: u8, boards: u8)
-        requires room { place < most_users }
-        requires place { place < length state.now.roles.accounts }
-        requires user { user ≡ user_at state.now place }
+    // Notes a board for the users who are allowed it, if it is one of the first.
+    fn ask_board(&mut self, state: &State, accounts: &[Account], board: u8, boards: u8)
+        requires accounts { accounts.now ≡ state.now.roles.accounts }
+        requires valid { IsValid state.now.roles }
         requires boards { boards ≤ most_boards }
-        ensures { IsAsked state.now (touched_at state.now (Board board) boards place) self.old self.new }
+        ensures { IsAsked state.now (touched_before state.now (Board board) boards (length (users_of state.now)))
+            self.old self.new }
     {
         if board < 1 || board > boards {
             return;
         }
+        let mut sight = BoardSight::new(state, board);
+        for place in 0..accounts.len() {
+            self.ask_sight(state, place, accounts[place].name, &mut sight);
+        }
+    }
+
+    // Notes a board for the user at a place, where its hands are allowed. Who was shown something of it before isn't asked
+    // about again.
+    fn ask_sight(&mut self, state: &State, place: usize, user: Name, sight: &mut BoardSight<'_>)
+        requires state { sight.old.state.now ≡ state.now }
+        requires room { place < most_users }
+        requires place { place < length state.now.roles.accounts }
+        requires user { user ≡ user_at state.now place }
+        requires from { 1 ≤ sight.old.board }
+        requires to { sight.old.board ≤ most_boards }
+        ensures asked { IsAsked state.now (one_board place sight.old.board) self.old self.new }
+        ensures state { sight.new.state ≡ sight.old.state }
+        ensures board { sight.new.board ≡ sight.old.board }
+    {
+        let board = sight.board();
         if self.contains(place, board) {
             return;
         }
-        self.ask(state, &onlooker(state, place, user), place, board);
+        if sight.is_of(place, user) {
+            self.insert(place, board);
+        }
+    }
+
+    // Notes what the users of a name are allowed.
+    fn ask_user(&mut self, state: &State, accounts: &[Account], name: Name, boards: u8)
+        requires accounts { accounts.now ≡ state.now.roles.accounts }
+        requires valid { IsValid state.now.roles }
+        requires boards { boards ≤ most_boards }
+        ensures { IsAsked state.now (touched_before state.now (User name) boards (length (users_of state.now)))
+            self.old self.new }
+    {
+        for place in 0..accounts.len() {
+            self.ask_named(state, place, accounts[place].name, name, boards);
+        }
     }
 
     // Notes what the user at a place is allowed, if it has the name.

@@ -3,6 +3,7 @@
 
 mod answer;
 mod audit;
+mod board_sight;
 mod book;
 mod exposure;
 pub mod laws;

@@ -1,4 +1,4 @@
-use Rattle.std.proofs.Common.{◌<◌, [], length, get_or, sym, ap, ◌∙◌, arith}
+use Rattle.std.proofs.Common.{◌<◌, [], length, ap, ◌∙◌, arith}
 use Rattle.std.proofs.lemmas.List.{get_or_default}
 use Rattle.small_sets.specs.Numbers.{has_number}
 use Rattle.session_book.specs.ExposureTable.{is_noted}
