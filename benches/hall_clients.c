@@ -1,14 +1,16 @@
 /* Clients of `bridge_server serve`, for benches/hall_clients.py: all on one thread, by what is ready.
  *
- *   hall_clients ping PORT CLIENTS SECONDS MESSAGE                  each asks the same again as soon as it is answered
+ *   hall_clients ping PORT CLIENTS SECONDS MESSAGE [0 WRITERS PAUSE BATCH]
+ *                                                                   each asks the same again as soon as it is answered
  *   hall_clients paced PORT CLIENTS SECONDS MESSAGE EVERY WRITERS PAUSE BATCH
- *                                                                   each asks once in EVERY seconds, at moments of its own, while so many
- *                                                                   writers send a batch and, PAUSE seconds after its receipt, the next
+ *                                                                   each asks once in EVERY seconds, at moments of its own
  *   hall_clients idle PORT CLIENTS SECONDS MESSAGE                  none asks anything
  *
+ * Meanwhile so many writers, if any, send a batch each and, PAUSE seconds after its receipt, the next.
+ *
  * Each signs in first, as the director of the tests' session. One line of JSON is printed: a reply's time is from the moment at which it was to be asked for.
- * `beside` counts the replies that were awaited while a batch was, and `apart_p99` is the 99th percentile of the others: both are of one run, so what else
- * the machine does is in both. */
+ * `beside` counts the replies that were awaited while a batch was, `beside_p50` and `beside_p99` are percentiles of these, and `apart_p99` is the 99th of
+ * the others: all are of one run, so what else the machine does is in each. */
 #define _GNU_SOURCE
 #include <arpa/inet.h>
 #include <errno.h>
@@ -111,8 +113,9 @@ int main(int argc, char **argv) {
         epoll_ctl(ready, EPOLL_CTL_ADD, clients[i].fd, &event);
     }
     size_t most = 40000000, replies = 0, receipts = 0;
-    float *times = malloc(most * sizeof *times), *apart = malloc(most * sizeof *apart), *receipt_times = malloc(1000000 * sizeof *receipt_times);
-    size_t others = 0;
+    float *times = malloc(most * sizeof *times), *apart = malloc(most * sizeof *apart), *beside = malloc(most * sizeof *beside);
+    float *receipt_times = malloc(1000000 * sizeof *receipt_times);
+    size_t others = 0, besides = 0;
     double start = now(), end = start + seconds, *due = calloc(all, sizeof *due), last_receipt = 0;
     long asked = 0, batches = 0;
     if (!is_paced) for (int i = 0; i < count; i++) { clients[i].asked = now(); put(clients[i].fd, question, asking); }
@@ -137,16 +140,18 @@ int main(int argc, char **argv) {
             if (i >= count) { if (receipts < 1000000) receipt_times[receipts++] = took; due[i] = m + pause; batches--; last_receipt = m; continue; }
             if (replies < most) times[replies++] = took;
             if (others < most && !is_beside) apart[others++] = took;
+            if (besides < most && is_beside) beside[besides++] = took;
             if (!is_paced) { clients[i].asked = m; put(clients[i].fd, question, asking); }
         }
     }
     double passed = now() - start;
     qsort(times, replies, sizeof *times, by_size);
     qsort(apart, others, sizeof *apart, by_size);
+    qsort(beside, besides, sizeof *beside, by_size);
     qsort(receipt_times, receipts, sizeof *receipt_times, by_size);
     if (!replies) die("no reply came");
-    printf("{\"clients\":%d,\"came\":%.3f,\"replies\":%zu,\"rate\":%.1f,\"p50\":%.1f,\"p99\":%.1f,\"p999\":%.1f,\"most\":%.1f,\"beside\":%zu,\"apart_p99\":%.1f,\"receipts\":%zu,\"receipt_p50\":%.1f}\n",
+    printf("{\"clients\":%d,\"came\":%.3f,\"replies\":%zu,\"rate\":%.1f,\"p50\":%.1f,\"p99\":%.1f,\"p999\":%.1f,\"most\":%.1f,\"beside\":%zu,\"beside_p50\":%.1f,\"beside_p99\":%.1f,\"apart_p99\":%.1f,\"receipts\":%zu,\"receipt_p50\":%.1f}\n",
         count, came, replies, replies / passed, times[replies / 2] * 1e6, times[replies * 99 / 100] * 1e6, times[replies * 999 / 1000] * 1e6, times[replies - 1] * 1e6,
-        replies - others, others ? apart[others * 99 / 100] * 1e6 : 0, receipts, receipts ? receipt_times[receipts / 2] * 1e6 : 0);
+        besides, besides ? beside[besides / 2] * 1e6 : 0, besides ? beside[besides * 99 / 100] * 1e6 : 0, others ? apart[others * 99 / 100] * 1e6 : 0, receipts, receipts ? receipt_times[receipts / 2] * 1e6 : 0);
     return 0;
 }

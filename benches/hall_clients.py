@@ -1,15 +1,19 @@
 #!/usr/bin/env python3
-"""Measures a server's clients over sockets: one, four and 32 without a pause, 1,000 that ask now and then while scorers enter, and 10,000 that
-say nothing.
+"""Measures a server's clients over sockets: one, four and 32 without a pause, one beside another's batches, 1,000 that ask now and then while
+scorers enter, 200 on a slow disk, and 10,000 that say nothing.
 
     benches/hall_clients.py PROGRAM [BEFORE [PART ..]]
 
 PROGRAM is the built server, and BEFORE one of before it served many clients a display, which is measured beside it in the same rounds, with a
-display a client; `-` where there is none. The parts are `pings`, `asking`, `paced`, `kept` and `idle`; without a word all are measured. `asking` has 1,000
-clients that ask once in two seconds each; in `paced` four more correct results, a batch of three every half second; `kept` is the same with a
-journal, whose file lies in the folder TMPDIR. Rates are the best of five rounds, since other work only makes them worse; processor time is the program's, a reply.
+display a client; `-` where there is none. The parts are `pings`, `asking`, `paced`, `kept` and `idle`, which are measured without a word, and `beside` and
+`slow`. `asking` has 1,000 clients that ask once in two seconds each; in `paced` four more correct results, a batch of three every half second; `kept` is the
+same with a journal, whose file lies in the folder TMPDIR. In `beside` one client asks without a pause while another has a result corrected a hundred times a
+second: BEFORE without a journal, or the program, and the program with one, by turns, as the system places all and so once more while no processor is
+halted. In `slow` 200 clients ask 500 queries a second while four enter, and each sync takes five milliseconds more: with four displays and no journal, and
+with a journal and four, sixteen and 32. Rates are the best of five rounds, since other work only makes them worse; processor time is the program's, a reply.
 It needs a C compiler for the clients (benches/hall_clients.c), which run on the same processors. It takes two minutes where nothing else runs.
 """
+import contextlib
 import json
 import os
 import pathlib
@@ -20,7 +24,8 @@ import tempfile
 import time
 
 ROOT = pathlib.Path(__file__).resolve().parent.parent
-sys.path[:0] = [str(ROOT / "tests" / folder) for folder in ("drivers", "runs")]
+sys.path[:0] = [*(str(ROOT / "tests" / folder) for folder in ("drivers", "runs")), str(ROOT / "benches")]
+from idle_loops import awake  # noqa: E402
 from raw_client import Client, Server, files_allowed  # noqa: E402
 from write_query_runs import correct  # noqa: E402
 from write_stored_runs import FOUR_SPADES, confirm, enter, text_of  # noqa: E402
@@ -99,6 +104,81 @@ def kept(folder):
     paced(folder, "--journal", folder / "hall.journal")
 
 
+@contextlib.contextmanager
+def entered_once(program, displays, *more):
+    """A server with a result that can be corrected again and again."""
+    with Server(program, "--workers", 0, "--displays", displays, *more) as server:
+        scorer = Client(server)
+        scorer.ask({"hello": "d", "token": "abc"})
+        assert json.loads(scorer.ask(text_of(FIRST)))["answers"] == ["ok"] * 2
+        scorer.leave()
+        yield server
+
+
+def journal_in(folder):
+    journal_in.count = getattr(journal_in, "count", 0) + 1
+    return "--journal", folder / f"{journal_in.count}.journal"
+
+
+def by_turns(kinds, measure, rounds):
+    """What is measured of each kind, round by round, every other round in the opposite order."""
+    found = {name: [] for name in kinds}
+    for turn in range(rounds):
+        for name in list(kinds) if turn % 2 == 0 else list(kinds)[::-1]:
+            found[name].append(measure(*kinds[name]))
+    return found
+
+
+def tell_by_turns(what, found, kinds_of_time):
+    """Each kind's times, in the middle of the rounds, and in how many of them it took longer than the first kind."""
+    first = next(iter(found))
+    for name, rounds in found.items():
+        told = [f"{kind} {statistics.median(row[kind] for row in rounds):.0f}" for kind in kinds_of_time]
+        more = [sum(row[kind] > other[kind] for row, other in zip(rounds, found[first])) for kind in kinds_of_time]
+        later = "" if name == first else f"; more in {', '.join(map(str, more))} of {len(rounds)} rounds"
+        print(f"{what}, {name}: {', '.join(told)} microseconds{later}", flush=True)
+
+
+def beside(folder):
+    def measure(program, is_kept):
+        with entered_once(program, DISPLAYS, *(journal_in(folder) if is_kept else ())) as server:
+            return clients(folder, "ping", server, 1, 2, 0, 1, 0.01, BATCH)
+
+    kinds = {"without a journal" if BEFORE is None else "before": (BEFORE or PROGRAM, False), "with a journal": (PROGRAM, True)}
+    for is_awake in (False, True):
+        with awake(is_awake):
+            found = by_turns(kinds, measure, 20)
+        what = f"one client's queries beside batches{', no processor halted' if is_awake else ''}"
+        tell_by_turns(what, found, ("p50", "p99", "beside_p50", "beside_p99"))
+
+
+# waits at each sync, and then does it
+SLOW = r"""
+#define _GNU_SOURCE
+#include <sys/syscall.h>
+#include <unistd.h>
+int fdatasync(int fd) { usleep(5000); return syscall(SYS_fdatasync, fd); }
+int fsync(int fd) { usleep(5000); return syscall(SYS_fsync, fd); }
+"""
+
+
+def slow(folder):
+    (folder / "slow.c").write_text(SLOW)
+    subprocess.run(["cc", "-O2", "-shared", "-fPIC", "-o", folder / "slow.so", folder / "slow.c"], check=True)
+    wrapper = folder / "slow_server"
+    wrapper.write_text(f'#!/bin/sh\nLD_PRELOAD={folder}/slow.so exec {pathlib.Path(PROGRAM).resolve()} "$@"\n')
+    wrapper.chmod(0o755)
+
+    def measure(displays, is_kept):
+        with entered_once(wrapper, displays, "--clients", 2_100, *(journal_in(folder) if is_kept else ())) as server:
+            return clients(folder, "paced", server, 200, 5, 0.4, 4, 0.5, BATCH)
+
+    kinds = {"4 displays and no journal": (4, False), **{f"{count} displays and a journal": (count, True) for count in (4, 16, 32)}}
+    with awake():
+        found = by_turns(kinds, measure, 10)
+    tell_by_turns("200 clients while each sync takes 5 ms more", found, ("p50", "p99", "beside_p50", "beside_p99"))
+
+
 def idle(folder):
     count = min(10_000, files_allowed() - 400)
     with Server(PROGRAM, "--workers", 0, "--displays", DISPLAYS, "--clients", count) as server:
@@ -119,7 +199,7 @@ def main():
         folder = pathlib.Path(name)
         subprocess.run(["cc", "-O2", "-o", folder / "hall_clients", ROOT / "benches/hall_clients.c"], check=True)
         for part in PARTS:
-            {"pings": pings, "asking": asking, "paced": paced, "kept": kept, "idle": idle}[part](folder)
+            {"pings": pings, "beside": beside, "asking": asking, "paced": paced, "kept": kept, "slow": slow, "idle": idle}[part](folder)
 
 
 if __name__ == "__main__":

@@ -12,13 +12,11 @@ program's whole.
 Queries are asked four times over, on four processors, while so many batches a second are entered. First the reading client, the writing
 one, and the server's thread of each have one of their own: what is measured then is how long the server lets a query wait. Then the clients are
 on one and the server on the others, as where clients are other machines. Then they run where the system places them, so that what a
-client takes of the server's processors is in it; and at last so again, while each processor has a loop of the system's idle class, which gives
-way to all else: a virtual processor that has nothing to do is halted, and the system puts a thread that wakes beside another rather than there.
+client takes of the server's processors is in it; and at last so again, while no processor is halted (benches/idle_loops.py).
 
 With `--beside` the servers without a journal are another program's, one from before there were journals say; with `--queries` nothing else is
 measured. What a Confirm costs beside the sync benches/beside_the_sync.py and benches/confirm_instructions.py say.
 """
-import contextlib
 import json
 import multiprocessing
 import os
@@ -31,6 +29,7 @@ import time
 ROOT = pathlib.Path(__file__).resolve().parent.parent
 sys.path[:0] = [*(str(ROOT / "tests" / folder) for folder in ("drivers", "journals", "runs")), str(ROOT / "benches")]
 import book_time  # noqa: E402
+from idle_loops import awake  # noqa: E402
 from journal_files import change, log_of  # noqa: E402
 from raw_client import Client, Server  # noqa: E402
 from write_stored_runs import text_of  # noqa: E402
@@ -172,32 +171,10 @@ def give_processors(placing, server, reader, writer, client):
         os.sched_setaffinity(thread, places.get(thread, others))
 
 
-def keep_awake(processor):
-    """A loop that runs on a processor where nothing else wants to."""
-    os.sched_setaffinity(0, {processor})
-    os.sched_setscheduler(0, os.SCHED_IDLE, os.sched_param(0))
-    while True:
-        pass
-
-
-@contextlib.contextmanager
-def awake(placing):
-    """What keeps the processors from being halted, if it is to."""
-    loops = [multiprocessing.Process(target=keep_awake, args=(processor,)) for processor in os.sched_getaffinity(0)] if placing == AWAKE else []
-    for loop in loops:
-        loop.start()
-    try:
-        yield
-    finally:
-        for loop in loops:
-            loop.kill()
-            loop.join()
-
-
 def queries(folder, kept, placing):
     """Microseconds of a query while another client's batches are entered one after another: the median, and the 99th of a hundred."""
     everywhere = os.sched_getaffinity(0)
-    with awake(placing), server(new_file(folder) if kept else None) as at:
+    with awake(placing == AWAKE), server(new_file(folder) if kept else None) as at:
         ends, reader, took = multiprocessing.Event(), signed_in(at), []
 
         def ask(seconds):
