@@ -1,5 +1,7 @@
 # The kit's command `rt` must be on the path (README.md, "Get it, build it, run it").
 RT ?= rt
+# The gate as `make test` runs it.
+GATE ?= $(RT) ci
 # The built server: `make demo` proves and builds it, as the gate does, and `rt run` in crates/bridge_server.
 PROGRAM ?= crates/bridge_server/out/bridge_server
 PORT ?= 8080
@@ -34,7 +36,7 @@ page:
 
 # The example session with the page, on this computer, until Ctrl-C.
 serve: $(PROGRAM) page
-	$(PROGRAM) serve --session examples/session.json --deals examples/club.pbn --journal $(JOURNAL) --port $(PORT) --page out/page
+	$(PROGRAM) serve --session examples/session.json --deals examples/club.pbn --journal $(JOURNAL) --displays 16 --port $(PORT) --page out/page
 
 # The same to try the page out: it begins anew each time, and it is said who signs in.
 demo-page: $(PROGRAM) page
@@ -43,7 +45,7 @@ demo-page: $(PROGRAM) page
 	@echo "carla (North in NS2), vera (watches), sam (enters and confirms results), dora (directs) or ada (administers); the token of"
 	@echo "each is the name with -example behind it, as sam-example. Open it in two windows, as sam and as anna: enter and confirm"
 	@echo "board 1 at table 1, and see it open for anna."
-	$(PROGRAM) serve --session examples/session.json --deals examples/club.pbn --journal out/demo.journal --port $(PAGE_PORT) --workers 1 --page out/page
+	$(PROGRAM) serve --session examples/session.json --deals examples/club.pbn --journal out/demo.journal --displays 16 --port $(PAGE_PORT) --workers 1 --page out/page
 
 $(PROGRAM):
 	@echo "make demo builds $(PROGRAM)."; exit 1
@@ -52,7 +54,7 @@ $(PROGRAM):
 # sockets, and the page in a browser (README.md, "Checking it", says what they need). The last line is `N passed, M failed`. With
 # MINUTES=160 no check of a built program begins later than so many minutes after the gate did, and what isn't run is told.
 test:
-	python3 tests/all_checks.py "$(RT) ci" --built $(MINUTES:%=--minutes=%)
+	python3 tests/all_checks.py "$(GATE)" --built $(MINUTES:%=--minutes=%)
 
 # The checks that need no program, and after a gate the short ones of built programs: no browser, no socket, two minutes at most.
 test-fast:
