@@ -40,7 +40,7 @@ use Rattle.std.specs.Prelude.{
 }
 use Rattle.std.specs.List.{filter_map, range_with_len, sum_by, list_any, cons_option}
 use Rattle.std.specs.Option.{option_map, option_or}
-use Rattle.std.proofs.lemmas.Bool.{cases_eq, ne_eqb}
+use Rattle.std.proofs.lemmas.Bool.{cases_eq, ne_eqb, true≢false}
 use Rattle.std.proofs.lemmas.Bool.Decides.{same_from_decides}
 use Rattle.std.proofs.lemmas.List.Sums.{sum_by-cons}
 use Rattle.session_roles.specs.declared.role.Role.TheVariants.{Contestant, Director, Commentator}
@@ -88,6 +88,7 @@ use Rattle.disclosure_rules.proofs.SeatingTests.{still_decides, complete_decides
 use Rattle.session_state.specs.Apply.{apply, effect, part_of, confirmed}
 use Rattle.session_state.specs.Parts.{Embargoes}
 use Rattle.session_commands.specs.declared.cell_state.CellState.{CellState}
+use Rattle.session_commands.specs.declared.cell_state.CellState.TheVariants as cell_state
 use Rattle.session_commands.specs.declared.cell_state.CellState.TheVariants.{Empty}
 use Rattle.session_state.specs.Refusal.{hindrance_of}
 use Rattle.session_state.specs.SessionState.{SessionState, cell_at, IsPlaced, AreLive}
@@ -169,7 +170,7 @@ same_elsewhere state entry board is_section other from to live live_after =
       live = λ table low high.
           live_after (cell_on board table) (there table low high)
           ∙ (ap has_result (known table low high) ∙ sym (live (cell_on board table) (there table low high)));
-      cells = known;
+      results = λ table low high. ap result_of (known table low high);
     }
   where
     there : (table : ℕ) → 1 ≤ table → table ≤ 16 → IsPlaced (cell_on board table)
@@ -179,6 +180,74 @@ same_elsewhere state entry board is_section other from to live live_after =
         (cell_on board table)
     known table low high = entry_elsewhere state entry (cell_on board table) is_section (there table low high)
         (about_its_board entry.command (cell_on board table) other)
+
+-- a command about a cell holds no board and releases none
+held_at_cell : (state : SessionState) (entry : Entry) (cell : Cell) → subject_cell entry.command ≡ Some cell →
+    (apply state entry).public.held ≡ state.public.held
+held_at_cell state entry cell about = by_hindrance (hindrance_of state entry.command)
+  where
+    by_command : (c : Command) → subject_cell c ≡ Some cell → (effect state c).public.held ≡ state.public.held
+    by_command (command.Confirm own outcome) it = confirmed_held state own (cell_at state own)
+    by_command c it = search
+
+    by_hindrance : (found : Option Refusal) → (if is_some found then state else effect state
+        entry.command).public.held ≡ state.public.held
+    by_hindrance (Some cause) = refl
+    by_hindrance None = by_command entry.command about
+
+-- where there is no result, none is read
+no_result : (known : CellState) → has_result known ≡ false → result_of known ≡ None
+no_result Empty none = refl
+no_result (cell_state.Entered outcome play) none = refl
+no_result (cell_state.Confirmed outcome play costs) some = absurd (true≢false some)
+no_result (cell_state.Ruled north_south east_west reason) some = absurd (true≢false some)
+
+-- what an entry leaves of the board of a cell that has no result before it and none after it
+pub same_uncounted : (state : SessionState) (entry : Entry) (cell : Cell) → IsSection state.public.movement →
+    subject_cell entry.command ≡ Some cell → 1 ≤ cell.board → cell.board ≤ most_boards →
+    AreLive state.public.live state.cells → AreLive (apply state entry).public.live (apply state entry).cells →
+    is_live state.public.live cell ≡ false → is_live (apply state entry).public.live cell ≡ false →
+    IsSameOn state (apply state entry) cell.board
+same_uncounted state entry cell is_section about from to live live_after without without_after =
+    let part = entry_part state entry in
+    record {
+      movement = part.movement;
+      marks = part.marks;
+      edition = part.edition;
+      held = ap (λ held. has_number held cell.board) (held_at_cell state entry cell about);
+      live = λ table low high.
+          elim (cases_eq table cell.table) [
+            | inl here ↦
+                subst (λ t. is_live (apply state entry).public.live (cell_on cell.board t) ≡ is_live state.public.live
+                (cell_on cell.board t)) (sym here)
+                (without_after ∙ sym without)
+            | inr other ↦
+                live_after (cell_on cell.board table) (there table low high)
+                ∙ (ap has_result (known table low high other) ∙ sym (live (cell_on cell.board table)
+                (there table low high)))
+          ];
+      results = λ table low high.
+          elim (cases_eq table cell.table) [
+            | inl here ↦
+                no_result _ (sym (live_after (cell_on cell.board table) (there table low high))
+                ∙ subst (λ t. is_live (apply state entry).public.live (cell_on cell.board t) ≡ false) (sym here)
+                without_after)
+                ∙ sym (no_result _ (sym (live (cell_on cell.board table) (there table low high))
+                ∙ subst (λ t. is_live state.public.live (cell_on cell.board t) ≡ false) (sym here) without))
+            | inr other ↦ ap result_of (known table low high other)
+          ];
+    }
+  where
+    there : (table : ℕ) → 1 ≤ table → table ≤ 16 → IsPlaced (cell_on cell.board table)
+    there table low high = record { from_table = low; to_table = high; from_board = from; to_board = to }
+
+    one_cell : (a b : Cell) → Some a ≡ Some b → a ≡ b
+    one_cell a b same = cc
+
+    known : (table : ℕ) → 1 ≤ table → table ≤ 16 → table ≢ cell.table → cell_at (apply state entry)
+        (cell_on cell.board table) ≡ cell_at state (cell_on cell.board table)
+    known table low high other = entry_elsewhere state entry (cell_on cell.board table) is_section (there table low high)
+        (λ it. other (ap (λ (c : Cell). c.table) (one_cell (cell_on cell.board table) cell (sym it ∙ about))))
 
 -- ---- what is the same on such a board
 
@@ -308,7 +377,7 @@ module _ (before after : SessionState) (board : ℕ) (same : IsSameOn before aft
   same_result : (table : ℕ) → 1 ≤ table → table ≤ 16 → live_result after board table ≡ live_result before board table
   same_result table from to =
       λ i. if is_scheduled (same.movement i) (cell_on board table) then option_map (result_at (cell_on board table))
-      (result_of (same.cells table from to i)) else None
+      (same.results table from to i) else None
 
   same_results : (first n : ℕ) → 1 ≤ first → first + n ≤ 17 → filter_map (live_result after board)
       (range_with_len first n) ≡ filter_map (live_result before board) (range_with_len first n)

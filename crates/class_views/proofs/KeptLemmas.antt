@@ -31,7 +31,7 @@ use Rattle.std.proofs.Common.{
 }
 use Rattle.std.specs.Prelude.{Option, Some, None, ◌&&◌, ◌||◌, not, min, nat_eq, nat_le}
 use Rattle.std.specs.List.{range_with_len, sum_by}
-use Rattle.std.proofs.lemmas.Bool.{cases_Bool, cases_eq, cases_lt, le-leb, lt-leb, leb-true, leb-false, eq-eqb}
+use Rattle.std.proofs.lemmas.Bool.{cases_Bool, cases_eq, cases_lt, le-leb, lt-leb, leb-true, leb-false, eq-eqb, true≢false}
 use Rattle.std.proofs.lemmas.List.{get_or-set_same, get_or-set_other, get_or_default, length-set}
 use Rattle.std.proofs.lemmas.List.Sums.{sum_by-cons}
 use Rattle.movement.specs.Movement.{IsSection, boards_of, most_boards}
@@ -40,36 +40,16 @@ use Rattle.small_sets.specs.Numbers.{has_number}
 use Rattle.small_sets.proofs.NumbersLemmas.{has_number-numbers_that}
 use Rattle.session_state.specs.Apply.{apply}
 use Rattle.session_state.specs.SessionState.{SessionState, AreLive}
+use Rattle.session_commands.specs.Command.{subject_board, subject_cell}
 use Rattle.session_commands.specs.declared.entry.Entry.{Entry}
+use Rattle.movement.specs.declared.cell.Cell.{Cell}
+use Rattle.std.specs.Option.{option_map, option_or}
 use Rattle.session_state.proofs.PartLemmas.{entry_part}
 use Rattle.standings.specs.declared.earning.Earning.{Earning}
 use Rattle.standings.specs.Ranking.{earned_by, top_for, standing_of}
 use Rattle.class_views.specs.Classes.{class_sees, member_of, without_embargo}
-use Rattle.class_views.specs.Totals.{IsSameOn, earnings_on, told_board}
-use Rattle.class_views.specs.Kept.{
-  AreWithinBoard,
-  AreStandings,
-  CountsSame,
-  IsBoardOf,
-  IsChangedAt,
-  IsClassKept,
-  IsClassWith,
-  IsKept,
-  IsKeptOf,
-  IsNothing,
-  IsTotalWith,
-  IsWithinBoard,
-  boards_with,
-  counted_to,
-  earned_to,
-  most_earned,
-  most_total,
-  seen_in,
-  seen_to,
-  total_to,
-  total_with,
-  where_seen,
-}
+use Rattle.class_views.specs.Totals.{IsSameOn, earnings_on, may_count, may_count_at, told_board}
+use Rattle.class_views.specs.Kept.{AreWithinBoard, AreStandings, CountsSame, IsBoardOf, IsChangedAt, IsClassKept, IsClassWith, IsKept, IsKeptOf, IsNothing, IsWithinBoard, boards_with, counted_to, earned_to, most_earned, most_total, seen_in, seen_to, total_to, total_with, where_seen}
 use Rattle.class_views.specs.Places.{class_at, pair_at}
 use Rattle.class_views.specs.declared.class_view.ClassView.{ClassView}
 use Rattle.class_views.specs.declared.user_class.UserClass.{UserClass}
@@ -79,6 +59,7 @@ use Rattle.class_views.proofs.BoardLemmas.{
   same_earnings,
   same_elsewhere,
   same_sees,
+  same_uncounted,
   sum_changed,
   sum_same,
 }
@@ -344,18 +325,6 @@ module _ (state : SessionState) (own : ℕ) (from : 1 ≤ own) (to : own ≤ boa
           again : board - 1 + 1 ≡ board
           again = omega (arith, low)
 
--- a class changes by a board's row alone, however that is listed
-pub with_row : (own : ℕ) (sees : Bool) (old new row : List Standing) (before after : ClassView) (earned : List Earning) →
-    AreStandings earned new → AreStandings earned row → IsClassWith own sees old new before after →
-    IsClassWith own sees old row before after
-with_row own sees old new row before after earned is_new is_row step = record {
-  boards = step.boards;
-  totals = λ place d below.
-      subst (λ standing. IsTotalWith (has_number before.boards own) (get_or old place d) sees standing
-      (get_or before.totals place d) (get_or after.totals place d))
-      (is_new place d below ∙ sym (is_row place d below)) (step.totals place d below);
-}
-
 -- so what is kept stays as it would be worked out afresh, where the others are as they were
 pub kept_changed_at : (state : SessionState) (own : ℕ) → 1 ≤ own → own ≤ boards_of state.public.movement →
     IsSection state.public.movement →
@@ -529,6 +498,40 @@ module _ (state : SessionState) (entry : Entry) (is_section : IsSection state.pu
       is_section (member_of class))
       (λ board low high. same_earnings state (apply state entry) board (same_on board (other board low high) low high)
       is_section) kept)
+
+  -- where it is about a table that has no result before it and none after it, all is as it was
+  pub kept_uncounted : (classes : List ClassView) (rows : List (List Standing)) →
+      may_count state entry.command ≡ false → may_count (apply state entry) entry.command ≡ false →
+      IsKeptOf state classes rows → IsKeptOf (apply state entry) classes rows
+  kept_uncounted classes rows without without_after kept = at_cell (subject_cell entry.command) refl without without_after
+    where
+      one_number : {m n : ℕ} → Some m ≡ Some n → m ≡ n
+      one_number same = cc
+
+      at_cell : (own : Option Cell) → subject_cell entry.command ≡ own → may_count_at state own ≡ false → may_count_at
+          (apply state entry) own ≡ false → IsKeptOf (apply state entry) classes rows
+      at_cell None about none none_after = absurd (true≢false none)
+      at_cell (Some cell) about none none_after =
+          subst (λ n. IsKept n (seen_in (apply state entry)) (earnings_on (apply state entry)) classes rows)
+          (sym same_boards)
+          (kept_same (boards_of state.public.movement) _ _ _ _ classes rows
+          (λ class board low high. same_sees state (apply state entry) board (same board low high) is_section
+          (member_of class))
+          (λ board low high. same_earnings state (apply state entry) board (same board low high) is_section) kept)
+        where
+          told : told_board entry.command ≡ Some cell.board
+          told = ap (λ o. option_or (option_map (λ (cell : Cell). cell.board) o) (subject_board entry.command)) about
+
+          same : (board : ℕ) → 1 ≤ board → board ≤ boards_of state.public.movement → IsSameOn state (apply state entry)
+              board
+          same board low high =
+              elim (cases_eq board cell.board) [
+                | inl here ↦
+                    subst (IsSameOn state (apply state entry)) (sym here)
+                    (same_uncounted state entry cell is_section about (omega (arith, low, here))
+                    (omega (arith, high, here, is_section.not_too_many_boards)) live live_after none none_after)
+                | inr other ↦ same_on board (λ it. other (sym (one_number (sym told ∙ it)))) low high
+              ]
 
   -- after an entry about a board of the session: what is kept was kept of the state before, and the board is now as it
   -- is

@@ -1,6 +1,7 @@
 pub mod AlikeLemmas
 pub mod BoardLemmas
 pub mod ClassLemmas
+pub mod ClassSightLemmas
 pub mod KeptLemmas
 pub mod PlaceLemmas
 pub mod QueryLemmas

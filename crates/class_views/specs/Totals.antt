@@ -1,5 +1,5 @@
 -- What all results of a board earn, and what those count that a class is shown.
-use Rattle.std.specs.Prelude.{◌≡◌, ◌≤◌, ℕ, ◌-◌, if◌then◌else◌, Option, Some, None, List, [], slice_get}
+use Rattle.std.specs.Prelude.{◌≡◌, ◌≤◌, ℕ, ◌-◌, Bool, true, if◌then◌else◌, Option, Some, None, List, [], slice_get}
 use Rattle.std.specs.List.{sum_by}
 use Rattle.std.specs.Option.{option_map, option_or}
 use Rattle.movement.specs.declared.cell.Cell.{Cell}
@@ -15,6 +15,7 @@ use Rattle.standings.specs.declared.table_result.TableResult.{TableResult}
 use Rattle.standings.specs.Ranking.{earned_by, earnings_of, top_for}
 use Rattle.table_terms.specs.declared.pair.Pair.{Pair}
 use Rattle.scoring.specs.declared.standing.Standing.{Standing}
+use Rattle.session_queries.specs.Content.{result_of}
 use Rattle.session_queries.specs.Facts.{cell_on, boards}
 use Rattle.session_queries.specs.Results.{live_results}
 use Rattle.class_views.specs.Classes.{class_sees}
@@ -43,6 +44,15 @@ counted_for count state class = sum_by (counted_on count state class) (boards st
 abbrev pub told_board : Command → Option ℕ
 told_board command = option_or (option_map (λ (cell : Cell). cell.board) (subject_cell command)) (subject_board command)
 
+-- whether what stands at a cell may count or be shown: not where it has no result. Where there is no cell, it may
+abbrev pub may_count_at : SessionState → Option Cell → Bool
+may_count_at state None = true
+may_count_at state (Some cell) = is_live state.public.live cell
+
+-- the same of what a command is about
+abbrev pub may_count : SessionState → Command → Bool
+may_count state command = may_count_at state (subject_cell command)
+
 -- two states are the same on a board: but for an embargo the policy says the same of it, and its results are the same
 pub record IsSameOn (before after : SessionState) (board : ℕ) : Type 0 where
   pub movement : after.public.movement ≡ before.public.movement
@@ -51,8 +61,8 @@ pub record IsSameOn (before after : SessionState) (board : ℕ) : Type 0 where
   pub held : has_number after.public.held board ≡ has_number before.public.held board
   pub live : (table : ℕ) → 1 ≤ table → table ≤ 16 →
       is_live after.public.live (cell_on board table) ≡ is_live before.public.live (cell_on board table)
-  pub cells : (table : ℕ) → 1 ≤ table → table ≤ 16 →
-      cell_at after (cell_on board table) ≡ cell_at before (cell_on board table)
+  pub results : (table : ℕ) → 1 ≤ table → table ≤ 16 →
+      result_of (cell_at after (cell_on board table)) ≡ result_of (cell_at before (cell_on board table))
 
 -- how a pair stands by what all boards count for a class
 abbrev pub total_for : SessionState → Option UserClass → Pair → Standing

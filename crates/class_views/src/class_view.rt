@@ -5,9 +5,10 @@ ghost use Rattle.class_views.specs.declared.class_view.ClassView.{ClassView};
 ghost use Rattle.class_views.specs.Kept.{AreAlike, AreStandings, IsClassWith, boards_with};
 ghost use Rattle.class_views.specs.Places.{class_at, class_places};
 
+use crate::class_sight::ClassSight;
 use crate::pair_totals::PairTotals;
 use crate::user_class::{CLASSES, UserClass};
-use disclosure_rules::{Boards, Fact, Public, decide};
+use disclosure_rules::{Boards, Public};
 use std::alloc::{AllocError, Global};
 
 /// What the users of a class see: the boards whose hands they are shown, and how the pairs stand on these.
@@ -78,70 +79,12 @@ pub(crate) fn change_each(
         IsClassWith board (class_sees (without_embargo public.now) (Some (class_at place)) board) old.now new.now
         (get_or classes.old.items place d) (get_or classes.new.items place d) }
 {
-    if public.embargo {
-        change_lifted(classes, public, board, old, new);
-    } else {
-        change_seen(classes, public, board, old, new);
-    }
-}
-
-// The copy is large, and an embargo rare: in a function of its own it costs nothing where there is none.
-#[inline(never)]
-fn change_lifted(
-    classes: &mut Vec<ClassView>,
-    public: &Public,
-    board: u8,
-    old: &PairTotals,
-    new: &PairTotals,
-)
-    requires from { 1 ≤ board }
-    requires to { board ≤ most_boards }
-    requires each { vec_len classes.old ≡ class_places }
-    ensures each { vec_len classes.new ≡ class_places }
-    ensures classes { (place : ℕ) (d : ClassView) → place < class_places →
-        IsClassWith board (class_sees (without_embargo public.now) (Some (class_at place)) board) old.now new.now
-        (get_or classes.old.items place d) (get_or classes.new.items place d) }
-{
-    change_seen(classes, &without_embargo(public), board, old, new);
-}
-
-/// Each class takes in what a board counts now in place of what it counted, and whether it is seen now.
-fn change_seen(
-    classes: &mut Vec<ClassView>,
-    public: &Public,
-    board: u8,
-    old: &PairTotals,
-    new: &PairTotals,
-)
-    requires from { 1 ≤ board }
-    requires to { board ≤ most_boards }
-    requires each { vec_len classes.old ≡ class_places }
-    ensures each { vec_len classes.new ≡ class_places }
-    ensures classes { (place : ℕ) (d : ClassView) → place < class_places →
-        IsClassWith board (class_sees public.now (Some (class_at place)) board) old.now new.now
-        (get_or classes.old.items place d) (get_or classes.new.items place d) }
-{
+    let sight = ClassSight::new(public, board);
     let is_same = old.agrees(new);
     for place in 0..CLASSES {
-        let sees = sees(public, UserClass::at(place), board);
+        let sees = sight.is_of(UserClass::at(place));
         classes[place as usize].change(board, sees, old, new, is_same);
     }
-}
-
-/// Whether the users of a class are shown the hands of a board.
-fn sees(public: &Public, class: UserClass, board: u8) -> bool
-    ensures { result ≡ class_sees public.now (Some class) board }
-{
-    decide(public, &class.member(), Fact::Hands(board)).is_none()
-}
-
-/// The public facts as they would be without an embargo.
-fn without_embargo(public: &Public) -> Public
-    ensures { result ≡ without_embargo public.now }
-{
-    let mut lifted = public.copy();
-    lifted.embargo = false;
-    lifted
 }
 
 /// Whether the users of a class may be shown boards at all: under an embargo directors alone may.

@@ -7,7 +7,7 @@ ghost use Rattle.session_state.specs.Apply.{apply};
 ghost use Rattle.session_state.specs.SessionState.{AreLive};
 ghost use Rattle.standings.specs.Ranking.{pairs_on, pairs_of};
 ghost use Rattle.class_views.specs.Classes.{class_of, is_kept_class, is_kept_pair};
-ghost use Rattle.class_views.specs.Totals.{total_for};
+ghost use Rattle.class_views.specs.Totals.{may_count, total_for};
 
 use crate::class_view::is_shown_boards;
 use crate::kept::Kept;
@@ -15,7 +15,7 @@ use crate::user_class::{PAIRS, UserClass, place_of};
 use disclosure_rules::Viewer;
 use movement::Movement;
 use scoring::Standing;
-use session_commands::Entry;
+use session_commands::{Command, Entry};
 use session_state::State;
 use std::alloc::{AllocError, Global};
 use std::marker::Model;
@@ -66,13 +66,17 @@ impl ClassViews {
         &self.state
     }
 
-    /// Takes in the next entry. Of what is kept only that of the board changes that the entry is about; it takes no
-    /// memory.
+    /// Takes in the next entry. Of what is kept only that of the board changes that the entry is about, and nothing where it
+    /// is about a table that has no result before it and none after it; it takes no memory.
     pub fn absorb(&mut self, entry: &Entry)
         ensures { self.new ≡ apply self.old entry.now }
     {
+        let counted = may_count(&self.state, &entry.command);
         self.state.absorb(entry);
-        self.kept.follow(&self.state, &entry.command);
+        let counts = may_count(&self.state, &entry.command);
+        if counted || counts {
+            self.kept.follow(&self.state, &entry.command);
+        }
     }
 
     /// Whether a user is shown the hands of a board.
@@ -133,6 +137,18 @@ impl ClassViews {
         } else {
             nothing_earned(pair)
         }
+    }
+}
+
+/// Whether what a command is about may count or be shown: all but a table that has no result.
+fn may_count(state: &State, command: &Command) -> bool
+    ensures counts { result ≡ may_count state.now command.now }
+    ensures live { AreLive state.now.public.live state.now.cells }
+{
+    let live = &state.public().live;
+    match command.cell() {
+        Some(cell) => live.contains(cell),
+        None => true,
     }
 }
 

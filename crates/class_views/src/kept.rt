@@ -98,7 +98,7 @@ impl Kept {
             &self.rows[row],
             &self.fresh,
         );
-        self.rows[row].put(self.earnings.earnings());
+        std::mem::swap(&mut self.rows[row], &mut self.fresh);
     }
 }
 

@@ -3,6 +3,7 @@
 #![tactic(auto)]
 
 mod board_earnings;
+mod class_sight;
 mod class_view;
 mod class_views;
 mod kept;
