@@ -4,14 +4,16 @@ scorers enter, 200 on a slow disk, and 10,000 that say nothing.
 
     benches/hall_clients.py PROGRAM [BEFORE [PART ..]]
 
-PROGRAM is the built server, and BEFORE one of before it served many clients a display, which is measured beside it in the same rounds, with a
-display a client; `-` where there is none. The parts are `pings`, `asking`, `paced`, `kept` and `idle`, which are measured without a word, and `beside` and
-`slow`. `asking` has 1,000 clients that ask once in two seconds each; in `paced` four more correct results, a batch of three every half second; `kept` is the
-same with a journal, whose file lies in the folder TMPDIR. In `beside` one client asks without a pause while another has a result corrected a hundred times a
-second: BEFORE without a journal, or the program, and the program with one, by turns, as the system places all and so once more while no processor is
-halted. In `slow` 200 clients ask 500 queries a second while four enter, and each sync takes five milliseconds more: with four displays and no journal, and
-with a journal and four, sixteen and 32. Rates are the best of five rounds, since other work only makes them worse; processor time is the program's, a reply.
-It needs a C compiler for the clients (benches/hall_clients.c), which run on the same processors. It takes two minutes where nothing else runs.
+PROGRAM is the built server, and BEFORE one of before it served many clients a display, which is measured beside it in the same rounds, with a display
+a client; `-` where there is none. The parts are `pings`, `asking`, `paced`, `kept` and `idle`, which are measured without a word, and `beside`,
+`syncs` and `slow`. `asking` has 1,000 clients that ask once in two seconds each; in `paced` four more correct results, a batch of three every half
+second; `kept` is the same with a journal, whose file lies in the folder TMPDIR. In `beside` one client asks without a pause while another has a
+result corrected a hundred times a second: BEFORE without a journal, or the program, and the program with one, by turns, as the system places all and
+so once more while no processor is halted. In `syncs` it is asked so with the second sync of each such batch left out, and with both, by a library
+under the program: what the slowest wait for. In `slow` 200 clients ask 500 queries a second while four enter, and each sync takes five milliseconds
+more: with four displays and no journal, and with a journal and four, sixteen and 32. Rates are the best of five rounds, since other work only makes
+them worse; processor time is the program's, a reply. It needs a C compiler for the clients (benches/hall_clients.c), which run on the same
+processors. It takes two minutes where nothing else runs.
 """
 import contextlib
 import json
@@ -139,17 +141,47 @@ def tell_by_turns(what, found, kinds_of_time):
         print(f"{what}, {name}: {', '.join(told)} microseconds{later}", flush=True)
 
 
-def beside(folder):
-    def measure(program, is_kept):
-        with entered_once(program, DISPLAYS, *(journal_in(folder) if is_kept else ())) as server:
-            return clients(folder, "ping", server, 1, 2, 0, 1, 0.01, BATCH)
+def asked_beside(folder, program, is_kept):
+    """What one client's queries take while another has a result corrected a hundred times a second."""
+    with entered_once(program, DISPLAYS, *(journal_in(folder) if is_kept else ())) as server:
+        return clients(folder, "ping", server, 1, 2, 0, 1, 0.01, BATCH)
 
-    kinds = {"without a journal" if BEFORE is None else "before": (BEFORE or PROGRAM, False), "with a journal": (PROGRAM, True)}
+
+def beside(folder):
+    kinds = {"without a journal" if BEFORE is None else "before": (folder, BEFORE or PROGRAM, False), "with a journal": (folder, PROGRAM, True)}
     for is_awake in (False, True):
         with awake(is_awake):
-            found = by_turns(kinds, measure, 20)
+            found = by_turns(kinds, asked_beside, 20)
         what = f"one client's queries beside batches{', no processor halted' if is_awake else ''}"
         tell_by_turns(what, found, ("p50", "p99", "beside_p50", "beside_p99"))
+
+
+def over_library(folder, name, source):
+    """The program over a library that stands between it and C's own."""
+    (folder / f"{name}.c").write_text(source)
+    subprocess.run(["cc", "-O2", "-shared", "-fPIC", "-o", folder / f"{name}.so", folder / f"{name}.c"], check=True)
+    wrapper = folder / name
+    wrapper.write_text(f'#!/bin/sh\nLD_PRELOAD={folder}/{name}.so exec {pathlib.Path(PROGRAM).resolve()} "$@"\n')
+    wrapper.chmod(0o755)
+    return wrapper
+
+
+# of two syncs of a thread, which a batch has, so many are done
+SOME = r"""
+#define _GNU_SOURCE
+#include <sys/syscall.h>
+#include <unistd.h>
+static __thread unsigned asked;
+int fdatasync(int fd) { return asked++ % 2 < %d ? syscall(SYS_fdatasync, fd) : 0; }
+"""
+
+
+def syncs(folder):
+    kinds = {"before": (folder, BEFORE, False)} if BEFORE else {}
+    kinds |= {"without a journal": (folder, PROGRAM, False), "with a journal": (folder, PROGRAM, True)}
+    for name, done in (("one sync a batch", 1), ("no sync", 0)):
+        kinds[name] = (folder, over_library(folder, f"syncs_{done}", SOME.replace("%d", str(done))), True)
+    tell_by_turns("one client's queries beside batches", by_turns(kinds, asked_beside, 20), ("p50", "p99", "beside_p50", "beside_p99"))
 
 
 # waits at each sync, and then does it
@@ -163,11 +195,7 @@ int fsync(int fd) { usleep(5000); return syscall(SYS_fsync, fd); }
 
 
 def slow(folder):
-    (folder / "slow.c").write_text(SLOW)
-    subprocess.run(["cc", "-O2", "-shared", "-fPIC", "-o", folder / "slow.so", folder / "slow.c"], check=True)
-    wrapper = folder / "slow_server"
-    wrapper.write_text(f'#!/bin/sh\nLD_PRELOAD={folder}/slow.so exec {pathlib.Path(PROGRAM).resolve()} "$@"\n')
-    wrapper.chmod(0o755)
+    wrapper = over_library(folder, "slow", SLOW)
 
     def measure(displays, is_kept):
         with entered_once(wrapper, displays, "--clients", 2_100, *(journal_in(folder) if is_kept else ())) as server:
@@ -199,7 +227,7 @@ def main():
         folder = pathlib.Path(name)
         subprocess.run(["cc", "-O2", "-o", folder / "hall_clients", ROOT / "benches/hall_clients.c"], check=True)
         for part in PARTS:
-            {"pings": pings, "beside": beside, "asking": asking, "paced": paced, "kept": kept, "slow": slow, "idle": idle}[part](folder)
+            {"pings": pings, "beside": beside, "asking": asking, "paced": paced, "kept": kept, "syncs": syncs, "slow": slow, "idle": idle}[part](folder)
 
 
 if __name__ == "__main__":
