@@ -188,7 +188,7 @@ none_in_an_account : (account : Account) → has_float (account_data account) �
 none_in_an_account account =
     ap (λ b. b || false) (none_in_a_list role_data (λ role. refl) (roles_that (has account.assigned)))
 
-none_in_a_body : (body : Body) → has_float (body_data body) ≡ false
+pub none_in_a_body : (body : Body) → has_float (body_data body) ≡ false
 none_in_a_body body.NoSuchBoard = refl
 none_in_a_body body.NoSuchCell = refl
 none_in_a_body body.Behind = refl

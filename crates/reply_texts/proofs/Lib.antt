@@ -1,3 +1,4 @@
+pub mod BoardLemmas
 pub mod FilterLemmas
 pub mod FloatLemmas
 pub mod RangeLemmas

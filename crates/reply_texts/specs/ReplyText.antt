@@ -1,7 +1,8 @@
 -- What is written of a reply to a query: JSON texts with no space.
 --
 -- own: no public standard has these members; their names stand in the order of their bytes.
-use Rattle.std.specs.Prelude.{ℕ, List, codes}
+use Rattle.std.specs.Prelude.{ℕ, List, ◌++◌, codes}
+use Rattle.std.specs.Fmt.{decimal}
 use Rattle.serde_json.specs.Data.{Data, string, object, member, no_members}
 use Rattle.serde_json.specs.Written.{compact_text}
 use Rattle.disclosure_rules.specs.Policy.{rule_number}
@@ -72,3 +73,10 @@ reply_data reply =
 -- the reply as it is written
 unfoldable pub reply_text : Reply → List ℕ
 reply_text reply = compact_text (reply_data reply)
+
+-- ---- for private clauses
+
+-- a body's text under its word, and the version
+abbrev pub around : List ℕ → ℕ → List ℕ → List ℕ
+around word version body =
+    codes "{\"" ++ (word ++ (codes "\":" ++ (body ++ (codes ",\"version\":" ++ (decimal version ++ codes "}")))))

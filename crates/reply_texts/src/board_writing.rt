@@ -1,33 +1,43 @@
 //! What is written of a board, and of its double-dummy table.
 
-ghost use Rattle.std.specs.Prelude.{◌≡◌, IfOk};
+ghost use Rattle.std.specs.Prelude.{◌≡◌, IfOk, string_bytes};
 ghost use Rattle.serde_json.specs.View.{view};
+ghost use Rattle.serde_json.specs.Written.{compact_text};
 ghost use Rattle.reply_texts.specs.BoardText.{board_data, declarer_data, tricks_data, analysis_data};
 ghost use Rattle.reply_texts.specs.DataOf.{option_data};
 
+use crate::hand_writing::push_deal;
 use crate::to_json::list_value;
 use cards::Deal;
 use disclosure_rules::Marks;
-use json_fields::{ObjectWriter, string_value};
+use json_fields::ObjectWriter;
 use query_filter::TrickTable;
 use serde_json::Value;
 use std::alloc::{AllocError, Global};
+use std::fmt::Write;
 use table_terms::{Place, Strain};
 
-pub(crate) fn board_value(
+// How many bytes the text of a board has at most: its deal has 69.
+const LONGEST: usize = 119;
+
+/// The text of a board, without a tree of its values, since whoever looks at boards asks for one after another.
+pub(crate) fn board_text(
     alloc: Global,
     number: u8,
     deal: &Deal,
     marks: Marks,
-) -> Result<Value, AllocError>
-    ensures { IfOk result (λ value. view value ≡ board_data number deal.now marks) }
+) -> Result<String, AllocError>
+    ensures { IfOk result (λ text. string_bytes text ≡ compact_text (board_data number deal.now marks)) }
 {
-    ObjectWriter::new(alloc)
-        .member("deal", string_value(deal.to_string(alloc)))
-        .member("dealer", string_value(marks.dealer.to_string(alloc)))
-        .number("number", number)
-        .member("vul", string_value(marks.vulnerability.to_string(alloc)))
-        .object()
+    let (dealer, vulnerability) = (marks.dealer, marks.vulnerability);
+    let mut text = String::with_capacity(alloc, LONGEST)?;
+    text.push_str("{\"deal\":\"")?;
+    push_deal(&mut text, deal)?;
+    write!(
+        text,
+        "\",\"dealer\":\"{dealer}\",\"number\":{number},\"vul\":\"{vulnerability}\"}}"
+    )?;
+    Ok(text)
 }
 
 pub(crate) fn analysis_value(

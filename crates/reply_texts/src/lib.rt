@@ -5,6 +5,7 @@
 mod accounts_writing;
 mod board_writing;
 mod costs_writing;
+mod hand_writing;
 mod list_writing;
 mod par_writing;
 mod reply_writing;
