@@ -31,12 +31,12 @@ fn answer_one_by_one<R: Wait + AllocGlobal, K: CommandKeeper<R>, O: Write>(
     text: &str,
     writer: &mut O,
 ) -> bool {
-    let mut connection = Connection::new(keeper);
+    let mut connection = Connection::new(rt.alloc(), keeper);
     for messages in text.split_inclusive("\n\n") {
         if !answer_messages(rt, &mut connection, messages, writer) {
             return false;
         }
-        connection = Connection::new(connection.into_keeper());
+        connection = Connection::new(rt.alloc(), connection.into_keeper());
     }
     true
 }

@@ -1,20 +1,23 @@
 //! A connection over one who keeps the session.
 
-ghost use Rattle.std.specs.Prelude.{◌≡◌, ◌≤◌, ◌⊎◌, ◌↔◌, None, Some, length, IsTrue, IfOk, IfErr, OnOk, OnErr, string_bytes};
+ghost use Rattle.std.specs.Prelude.{◌≡◌, ◌≤◌, ◌⊎◌, ◌↔◌, None, Some, length, true, IsTrue, IfOk, IfErr, OnOk, OnErr, string_bytes};
 ghost use Rattle.session_book.specs.Journal.{IsAccepted};
-ghost use Rattle.wire.specs.Request.{HasFew};
-ghost use Rattle.wire.specs.declared.connection_fault.ConnectionFault.TheVariants.{NotKnown, NoEntry, OutOfMemory};
+ghost use Rattle.json_fields.specs.Reading.{Gives};
+ghost use Rattle.json_fields.specs.declared.request_fault.RequestFault.TheVariants.{OutOfMemory};
+ghost use Rattle.wire.specs.Request.{HasFew, HasFewIn, connection_meaning, is_message_text};
+ghost use Rattle.wire.specs.declared.connection_fault.ConnectionFault.TheVariants.{NotKnown, NoEntry};
 ghost use Rattle.connections.specs.Linked.{EntersNone, HasGoneOn, signed_in};
 ghost use Rattle.connections.specs.Serving.{IsOwnToken, IsServed, is_fault_of};
 
+use json::Scratch;
+use json_fields::RequestFault;
 use request_answers::{AnswerFault, answer_request};
 use session_keeper::{CommandKeeper, Keeper};
-use session_roles::Edition;
 use sha2::{Digest, Sha256};
 use std::alloc::Global;
 use std::marker::Model;
 use user_names::{Digest as TokenDigest, Name};
-use wire::{ConnectionFault, UserRequest};
+use wire::{ConnectionFault, RequestBody, UserRequest, read_connection_request};
 
 /// A connection: messages are answered for the user who has signed in on it.
 #[derive(Drop)]
@@ -23,6 +26,8 @@ pub struct Connection<K: Keeper> {
     user: Option<Name>,
     // Whose token the last greeting that was refused didn't have.
     mistaken: Option<Name>,
+    // What reading a message's JSON takes, so that it is cleared once and not for each.
+    scratch: Scratch,
 }
 
 impl<K: Keeper> Model for Connection<K> {
@@ -42,7 +47,7 @@ impl<K: Keeper> Model for Connection<K> {
 
 impl<K: Keeper> Connection<K> {
     /// A connection on which nobody has signed in.
-    pub fn new(keeper: K) -> Connection<K>
+    pub fn new(alloc: Global, keeper: K) -> Connection<K>
         ensures opening { result.opening ≡ K.opening keeper }
         ensures journal { result.journal ≡ K.journal keeper }
         ensures own { result.own_entries ≡ K.own_entries keeper }
@@ -52,6 +57,7 @@ impl<K: Keeper> Connection<K> {
             keeper,
             user: None,
             mistaken: None,
+            scratch: Scratch::new(alloc),
         }
     }
 
@@ -65,11 +71,18 @@ impl<K: Keeper> Connection<K> {
         keeper
     }
 
-    // The edition of the policy that the session is of, by which messages are read.
-    pub(crate) fn edition(&self) -> Edition
-        ensures { result ≡ self.now.opening.public.edition }
+    // What a message wants, by the edition of the policy that the session is of.
+    pub(crate) fn read(
+        &mut self,
+        alloc: Global,
+        message: &[u8],
+    ) -> Result<RequestBody, RequestFault>
+        ensures same { self.new ≡ self.old }
+        ensures meaning { Gives result (connection_meaning self.old.opening.public.edition message.now) }
+        ensures memory { IfErr result (λ fault. fault ≡ OutOfMemory → is_message_text message.now ≡ true) }
+        ensures few { IfOk result HasFewIn }
     {
-        self.keeper.edition()
+        read_connection_request(alloc, &mut self.scratch, message, self.keeper.edition())
     }
 
     /// Who has signed in.

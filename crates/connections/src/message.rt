@@ -14,10 +14,7 @@ use session_keeper::{CommandKeeper, Keeper};
 use std::alloc::{AllocError, Global};
 use std::borrow::CowStr;
 use user_names::Name;
-use wire::{
-    ConnectionFault, RequestBody, Token, UserRequest, connection_fault_text, fault_text,
-    read_connection_request,
-};
+use wire::{ConnectionFault, RequestBody, Token, UserRequest, connection_fault_text, fault_text};
 
 impl<K: Keeper> Connection<K> {
     /// The text that answers a message. A batch or an audit waits only where the keeper does. Where memory is refused,
@@ -37,7 +34,7 @@ impl<K: Keeper> Connection<K> {
         ensures refused { OnErr result (HasNoAnswer K.others self.old self.new message.now) }
         ensures memory { OnErr result (is_message_text message.now ≡ true) }
     {
-        match read_connection_request(alloc, message, self.edition()) {
+        match self.read(alloc, message) {
             Ok(body) => self.serve_read(rt, alloc, &body),
             Err(RequestFault::OutOfMemory) => Err(AllocError),
             Err(fault) => Ok(CowStr::Borrowed(fault_text(fault))),

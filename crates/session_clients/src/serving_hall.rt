@@ -43,7 +43,7 @@ where
         × AreServedInTurns L.Stream.remaining L.Stream.contents K.others K.no_entry K.not_kept
         (K.opening keeper) (K.own_entries keeper) plan.entry.connections places (K.journal result) (K.own_entries result) }
 {
-    let mut server = SessionServer::new(keeper, log);
+    let mut server = SessionServer::new(alloc, keeper, log);
     serve_hall(rt, alloc, listener, watch, plan, page, &mut server);
     server.into_keeper()
 }

@@ -17,7 +17,9 @@ use crate::query_reading::{is_query_word, query_called};
 use crate::request::{Request, RequestBody, ScriptRequest, UserRequest};
 use crate::source::{Source, said_user};
 use command_object::{commands_in, has_unknown};
+use json::Scratch;
 use json_fields::{RequestFault, has_only, read_since};
+use json_reading::{JsonFault, read_json};
 use serde_json::Value;
 use session_book::Book;
 use session_roles::Edition;
@@ -125,13 +127,18 @@ fn request_of(alloc: Global, value: &Value, dialect: Dialect) -> Result<Request,
 }
 
 #[tactic(auto, unfolding(crate::specs::Request::text_meaning))]
-fn read_text(alloc: Global, text: &str, dialect: Dialect) -> Result<Request, RequestFault>
+fn read_text(
+    alloc: Global,
+    scratch: &mut Scratch,
+    text: &str,
+    dialect: Dialect,
+) -> Result<Request, RequestFault>
     ensures { Gives result (text_meaning dialect text.now) }
 {
-    let value = match Value::from_str(alloc, text) {
+    let value = match read_json(alloc, scratch, text) {
         Ok(value) => value,
-        Err(error) if error.is_memory() => return Err(RequestFault::OutOfMemory),
-        Err(_) => return Err(RequestFault::Malformed),
+        Err(JsonFault::OutOfMemory) => return Err(RequestFault::OutOfMemory),
+        Err(JsonFault::Malformed) => return Err(RequestFault::Malformed),
     };
     if !value.is_object() {
         return Err(RequestFault::Malformed);
@@ -140,20 +147,26 @@ fn read_text(alloc: Global, text: &str, dialect: Dialect) -> Result<Request, Req
 }
 
 #[tactic(auto, unfolding(crate::specs::Request::bytes_meaning))]
-fn read_bytes(alloc: Global, bytes: &[u8], dialect: Dialect) -> Result<Request, RequestFault>
+fn read_bytes(
+    alloc: Global,
+    scratch: &mut Scratch,
+    bytes: &[u8],
+    dialect: Dialect,
+) -> Result<Request, RequestFault>
     ensures meaning { Gives result (bytes_meaning dialect bytes.now) }
     ensures memory { IfErr result (λ fault. fault ≡ OutOfMemory → utf8_valid_len bytes.now ≡ length bytes.now) }
 {
     match str::from_utf8(bytes) {
-        Ok(text) => read_text(alloc, text, dialect),
+        Ok(text) => read_text(alloc, scratch, text, dialect),
         Err(_) => Err(RequestFault::Malformed),
     }
 }
 
 /// The request that a message's bytes are, in a session of an edition of the policy. Memory is asked for only where
-/// they are not too many, and a text.
+/// they are not too many, and a text. What `scratch` holds for the reading of one message serves the next.
 pub fn read_request(
     alloc: Global,
+    scratch: &mut Scratch,
     bytes: &[u8],
     source: Source,
     edition: Edition,
@@ -166,7 +179,7 @@ pub fn read_request(
     if bytes.len() > MOST_MESSAGE_BYTES {
         return Err(RequestFault::TooLong);
     }
-    read_bytes(alloc, bytes, Dialect { source, edition })
+    read_bytes(alloc, scratch, bytes, Dialect { source, edition })
 }
 
 /// The request that a script's message is, and whose it is. Each names its user.
@@ -180,7 +193,8 @@ pub fn read_script_request(
     ensures memory { IfErr result (λ fault. fault ≡ OutOfMemory → is_message_text bytes.now ≡ true) }
     ensures few { IfOk result (λ said. HasFew said.request) }
 {
-    match read_request(alloc, bytes, Source::Script, edition) {
+    let mut scratch = Scratch::new(alloc);
+    match read_request(alloc, &mut scratch, bytes, Source::Script, edition) {
         Ok(request) => said_request(request),
         Err(fault) => Err(fault),
     }
@@ -190,6 +204,7 @@ pub fn read_script_request(
 #[tactic(auto, using(crate::proofs::GrammarLemmas::connection_said, crate::proofs::GrammarLemmas::connection_none))]
 pub fn read_connection_request(
     alloc: Global,
+    scratch: &mut Scratch,
     bytes: &[u8],
     edition: Edition,
 ) -> Result<RequestBody, RequestFault>
@@ -197,7 +212,7 @@ pub fn read_connection_request(
     ensures memory { IfErr result (λ fault. fault ≡ OutOfMemory → is_message_text bytes.now ≡ true) }
     ensures few { IfOk result HasFewIn }
 {
-    match read_request(alloc, bytes, Source::Connection, edition) {
+    match read_request(alloc, scratch, bytes, Source::Connection, edition) {
         Ok(Request { body, .. }) => Ok(body),
         Err(fault) => Err(fault),
     }

@@ -246,7 +246,7 @@ impl Part for Connected {
         let Some(Beside { desk, display }) = beside(shared, &mut places, &mut displays) else {
             return false;
         };
-        let mut connection = Connection::new(DeskKeeper::new(desk, display));
+        let mut connection = Connection::new(alloc, DeskKeeper::new(desk, display));
         for &(message, answer) in &MESSAGES {
             if !is_answered(rt, alloc, &mut connection, message, answer) {
                 return false;
