@@ -73,6 +73,24 @@ def main(root, *words):
     def job(crate, kind):
         k = key(crate, kind == "tests"); at = f"{STORE}/{k}"; log = f"{LOGS}/{short}.{crate.name}.{kind}.log"
         made = {"proof": f"{at}/rlib" if crate.makes_rlib() else f"{at}/bin", "tests": f"{at}/bin"}.get(kind)
+        # another gate over another clone may be proving the same
+        busy = f"{at}.{kind}.busy"
+        while kind != "edits" and not os.path.exists(f"{at}/done"):
+            try:
+                with open(busy, "x") as mine: mine.write(str(os.getpid()))
+                break
+            except FileExistsError:
+                try: os.kill(int(open(busy).read() or os.getpid()), 0)
+                except (OSError, ValueError):
+                    try: os.remove(busy)
+                    except OSError: pass
+                time.sleep(2)
+        try: return worked(crate, kind, at, log, made)
+        finally:
+            try:
+                if open(busy).read() == str(os.getpid()): os.remove(busy)
+            except (OSError, ValueError): pass
+    def worked(crate, kind, at, log, made):
         if kind != "edits" and os.path.exists(f"{at}/done"):
             if os.path.isdir(f"{at}/rlib"): link_tree(f"{at}/rlib", f"{crate.folder}/out/rlib")
             if os.path.isdir(f"{at}/bin"):
