@@ -52,6 +52,11 @@ def nested(depth):
     return '{"ask":"list","filter":' + formula + "}"
 
 
+def deep(depth):
+    """An object with a member that no query has, whose value is arrays in arrays: with the object they nest so deep."""
+    return '{"ask":"status","x":' + "[" * (depth - 1) + "]" * (depth - 1) + "}"
+
+
 def first_connection(run):
     """What isn't read, and what is asked before anybody has signed in."""
     run.fails('{"ask":"bo', "Malformed")
@@ -99,6 +104,8 @@ def contestant(run):
     run.say(nested(7), {"list": {"boards": [], "more": False}, "version": 0})
     run.fails(nested(8), "BadField")
     run.fails(nested(200), "Malformed")
+    run.fails(deep(127), "BadField")
+    run.fails(deep(128), "Malformed")
     run.fails({"do": [enter(1, 1, FOUR_SPADES)] * 65}, "BadField")
     run.does([enter(1, 1, FOUR_SPADES)], ["NotPermitted"], 0, 0, 0)
     run.fails({"audit": {"from": 1, "limit": 10}}, "NotPermitted")
