@@ -87,7 +87,7 @@ const errors = {
   NoSuchCell: "This table isn't scheduled to play this board.",
   NotPermitted: "This is for directors and administrators.",
   NotSignedIn: "Nobody is signed in.",
-  NotKept: "The server couldn't write this to its disk, so nothing of it was taken and nobody was shown it. What you typed is kept: try again. If this comes again, tell whoever runs the server that its disk is full or failing, and write results on paper until it is mended.",
+  NotKept: "The server couldn't write this to its disk, so nothing of it was taken and nobody was shown it. What you typed is kept: try again. If this comes again, tell whoever runs the server that its disk is full or failing, and that it may have to be started again once that is mended; until then write results on paper.",
   Unsure: "The server's disk failed while this was written, so it may be there after the server's next start, or not. Nobody was shown it, and nothing else is taken until then. Tell whoever runs the server, and look at what the page shows after that start, before you send it again.",
   Unreadable: "The page can't read what the server answered.",
   BadDeal: "The page can't read the hands that the server sent.",
