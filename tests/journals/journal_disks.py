@@ -5,7 +5,7 @@
 
 It needs Debian's package sqlite3, and for `calls` a C compiler (cc). A director has board 1 held and released by batches.
 
-`full`: the journal lies on a file system of 1 MiB, which is mounted; where that isn't allowed, this part says so and isn't run. Once it
+`full`: the journal lies on a file system of 1 MiB, which is mounted, by whoever isn't root in namespaces of his own (`unshare`). Once it
 is full each batch is answered `NotKept`, queries and audits go on and show what was kept before; once there is room again, a batch goes
 through; and the next start has each batch whose receipt came, and no other.
 
@@ -34,6 +34,8 @@ from write_query_runs import hold, release
 from write_stored_runs import text_of
 
 PROGRAM = sys.argv[1] if len(sys.argv) > 1 else "crates/bridge_server/out/bridge_server"
+# of a run in namespaces of its own
+ALONE = "JOURNAL_DISKS_ALONE"
 FAILING = r"""
 #define _GNU_SOURCE
 #include <errno.h>
@@ -216,7 +218,8 @@ def full():
         elsewhere.mkdir()
         mounted = subprocess.run(["mount", "-t", "tmpfs", "-o", "size=1m", "tmpfs", str(place)], capture_output=True, text=True, check=False)
         if mounted.returncode:
-            print(f"not run, since nothing can be mounted here: full ({mounted.stderr.strip()})", flush=True)
+            assert ALONE not in os.environ, f"nothing can be mounted here: {mounted.stderr.strip()}"
+            subprocess.run(["unshare", "-rm", sys.executable, __file__, PROGRAM, "full"], env={**os.environ, ALONE: "1"}, check=True)
             return
         try:
             journal, version = fill(place)

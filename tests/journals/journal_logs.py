@@ -4,7 +4,7 @@
     python3 tests/journals/journal_logs.py crates/bridge_server/out/bridge_server [STEP]
 
 It needs Debian's package sqlite3. A server that was killed has left a file and its log (`FILE-wal`). Each copy of the two, with the log cut
-or changed, is read by `bridge_server audit`, and some of them by a server that goes on with it. Each must have the first batches, whole, of
+or changed, is read by `bridge_server audit`, and some of them by a server that goes on with it; SQLite's own command finds each whole that was read. Each must have the first batches, whole, of
 those that were kept, or be refused by name; never a part of a batch. Where the log is but cut within its last batch, as a crash may leave
 it, none may be refused. Each line is a check: 'ok', or 'FAILED' with what came; the status is
 1 where one failed.
@@ -79,8 +79,8 @@ def is_first_batches(rows):
 
 
 def read(journal, log, again=False):
-    """What is read of the file with this log, or without any; if so wanted also whether that is so of a second look, and the file whole
-    for SQLite."""
+    """What is read of the file with this log, or without any, and whether the file is whole for SQLite then; if so wanted also whether a
+    second look reads the same."""
     with tempfile.TemporaryDirectory() as folder:
         copy = copied(journal, folder, log or b"")
         if log is None:
@@ -90,8 +90,10 @@ def read(journal, log, again=False):
             return f"wrong: {rows}"
         if isinstance(rows, str):
             return rows
-        same = not again or (audit(copy) == rows and integrity_of(copy) == "ok")
-        return f"{WHOLE.index(len(rows))} batches" + ("" if same else ", and others at the second look")
+        if again and audit(copy) != rows:
+            return f"wrong: {rows}, and others at the second look"
+        whole = integrity_of(copy)
+        return f"{WHOLE.index(len(rows))} batches" if whole == "ok" else f"wrong: {rows}, and the file isn't whole: {whole}"
 
 
 def serve(journal, log):
@@ -127,7 +129,7 @@ def logs(folder, pool):
     # a crash may leave each of these, so none may be refused
     tell(f"the log cut at each of {len(cuts)} places of its last batch", last, pool.map(lambda cut: read(journal, log[:cut]), cuts), set())
     looked_at = rng.sample(cuts, SERVED)
-    tell("some of these, looked at again and by SQLite", last, pool.map(lambda cut: read(journal, log[:cut], again=True), [before, after, *looked_at]), set())
+    tell("some of these, looked at again", last, pool.map(lambda cut: read(journal, log[:cut], again=True), [before, after, *looked_at]), set())
     tell("and by a server", last, pool.map(lambda cut: serve(journal, log[:cut]), [before, after, *looked_at]), set())
     frames = range(LOG_HEAD, len(log), FRAME_HEAD + PAGE)
     heads = [place for frame in frames for place in range(frame, frame + FRAME_HEAD) if before <= place < after][::STEP]
