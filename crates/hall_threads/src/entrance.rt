@@ -6,6 +6,7 @@ ghost use Rattle.hall_threads.specs.Askers.{IsOpen, LeavesFewer, AsksOneMore, st
 use crate::asker::{Asker, AskerEnd};
 use crate::askers::Askers;
 use crate::hall::HallPlan;
+use crate::lookout::{Lookout, goes_on, is_soon};
 use crate::source::Source;
 use hall_door::Door;
 use hall_turns::{Newcomer, RoundTerms};
@@ -36,6 +37,9 @@ const WALK: u64 = 250;
 
 // How many milliseconds to wait where the system can't say what is ready.
 const PAUSE: u64 = 100;
+
+// How often a thread looks at most before it sleeps, whatever the clock says.
+const MOST_LOOKS: u32 = 1_000;
 
 // Whether this thread looks at the door again though the system says nothing.
 #[derive(Clone, Copy, Debug, PartialEq, Eq)]
@@ -71,6 +75,7 @@ where
     opened: Instant,
     now: u64,
     walked: u64,
+    lookout: Lookout,
 }
 
 impl<'a, L: OpenListener + AsRawFd, P: Service + Drop> Entrance<'a, L, P>
@@ -102,6 +107,7 @@ where
             opened,
             now: 0,
             walked: 0,
+            lookout: Lookout::new(),
         }
     }
 
@@ -116,15 +122,68 @@ where
         } else {
             WALK
         };
+        let begun = Instant::now(rt).ok();
+        if time == 0 || !self.finds(rt, events, begun) {
+            self.sleep(rt, events, time);
+        }
+        self.lookout
+            .has_waited(!events.is_empty() && is_soon(rt, begun));
+        if self.look == Look::Soon {
+            self.look = Look::Now;
+        }
+    }
+
+    // Looks whether something is ready, where that is due, and answers whether it is. A thread that sleeps is woken late where its
+    // processor is halted meanwhile, or the system has it share one.
+    fn finds<R: Clock>(
+        &mut self,
+        rt: &R,
+        events: &mut Events<Global>,
+        begun: Option<Instant>,
+    ) -> bool
+        ensures { self.new.askers ≡ self.old.askers }
+    {
+        if !self.lookout.is_due() {
+            return false;
+        }
+        let found = self.looks(rt, events, begun);
+        self.lookout.has_looked(found);
+        found
+    }
+
+    // Looks until something is ready, but for no longer than a thread looks.
+    fn looks<R: Clock>(
+        &mut self,
+        rt: &R,
+        events: &mut Events<Global>,
+        begun: Option<Instant>,
+    ) -> bool
+        ensures { self.new.askers ≡ self.old.askers }
+    {
+        for _ in 0..MOST_LOOKS {
+            if self.poll.poll(events, Some(Duration::ZERO)).is_err() {
+                return false;
+            }
+            if !events.is_empty() {
+                return true;
+            }
+            if !goes_on(rt, begun) {
+                return false;
+            }
+        }
+        false
+    }
+
+    // Sleeps until the system says what is ready, but no longer than so many milliseconds.
+    fn sleep<R: Clock>(&mut self, rt: &R, events: &mut Events<Global>, time: u64)
+        ensures { self.new.askers ≡ self.old.askers }
+    {
         if self
             .poll
             .poll(events, Some(Duration::from_millis(time)))
             .is_err()
         {
             thread::sleep(rt, Duration::from_millis(PAUSE));
-        }
-        if self.look == Look::Soon {
-            self.look = Look::Now;
         }
     }
 

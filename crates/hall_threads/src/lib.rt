@@ -6,6 +6,7 @@ mod asker;
 mod askers;
 mod entrance;
 mod hall;
+mod lookout;
 mod source;
 mod watch;
 
