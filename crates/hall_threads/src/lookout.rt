@@ -1,6 +1,6 @@
 //! Whether a thread looks for what comes next before it sleeps.
 
-ghost use Rattle.std.specs.Prelude.{◌≡◌, true, false};
+ghost use Rattle.std.specs.Prelude.{◌≡◌, ◌≤◌, ◌↔◌, suc, true, false};
 
 use std::time::{Clock, Instant};
 
@@ -25,7 +25,9 @@ pub(crate) struct Lookout {
 
 impl Lookout {
     /// Before the first wait.
-    pub(crate) fn new() -> Lookout {
+    pub(crate) fn new() -> Lookout
+        ensures { result ≡ record { was_soon = false; pause = 0; next_pause = 1 } }
+    {
         Lookout {
             was_soon: false,
             pause: 0,
@@ -35,7 +37,9 @@ impl Lookout {
 
     /// Whether to look in the wait that begins.
     pub(crate) fn is_due(&mut self) -> bool
-        ensures { result ≡ true → (self.old.was_soon ≡ true) × (self.old.pause ≡ 0) }
+        ensures due { (result ≡ true) ↔ ((self.old.was_soon ≡ true) × (self.old.pause ≡ 0)) }
+        ensures same { (self.new.was_soon ≡ self.old.was_soon) × (self.new.next_pause ≡ self.old.next_pause) }
+        ensures pause { (self.new.pause ≤ self.old.pause) × (self.old.pause ≤ suc self.new.pause) }
     {
         if !self.was_soon {
             return false;
@@ -49,8 +53,9 @@ impl Lookout {
 
     /// The thread has looked.
     pub(crate) fn has_looked(&mut self, found: bool)
-        ensures found { found ≡ true → self.new.next_pause ≡ 1 }
-        ensures vain { found ≡ false → self.new.pause ≡ self.old.next_pause }
+        ensures same { self.new.was_soon ≡ self.old.was_soon }
+        ensures found { found ≡ true → (self.new.pause ≡ self.old.pause) × (self.new.next_pause ≡ 1) }
+        ensures vain { found ≡ false → (self.new.pause ≡ self.old.next_pause) × (self.new.next_pause ≤ 64) }
     {
         if found {
             self.next_pause = 1;
@@ -62,7 +67,7 @@ impl Lookout {
 
     /// The thread has waited.
     pub(crate) fn has_waited(&mut self, is_soon: bool)
-        ensures { self.new.was_soon ≡ is_soon }
+        ensures { self.new ≡ record { was_soon = is_soon; pause = self.old.pause; next_pause = self.old.next_pause } }
     {
         self.was_soon = is_soon;
     }
