@@ -1,6 +1,6 @@
 #!/usr/bin/env python3
 """Proves the crates of ROOT crate by crate as rt ci does (Crate.ci), keeps what is proved by a hash of files and libraries.
-   gate.py ROOT [--jobs N] [--tests] [--edits] [NAMES..]    names (with what is below) alone; --first A,B: these chains first"""
+   gate.py ROOT [--jobs N] [--each N] [--tests] [NAMES..]    names (with what is below) alone; --first A,B: these chains first"""
 import copy, hashlib, importlib.machinery, os, re, shutil, sys, time, types
 from concurrent.futures import FIRST_COMPLETED, ThreadPoolExecutor, wait
 P = "/opt/rattle/bin/rt"
@@ -75,7 +75,7 @@ def main(root, *words):
         made = {"proof": f"{at}/rlib" if crate.makes_rlib() else f"{at}/bin", "tests": f"{at}/bin"}.get(kind)
         # another gate over another clone may be proving the same
         busy = f"{at}.{kind}.busy"
-        while kind != "edits" and not os.path.exists(f"{at}/done"):
+        while not os.path.exists(f"{at}/done"):
             try:
                 with open(busy, "x") as mine: mine.write(str(os.getpid()))
                 break
@@ -91,7 +91,7 @@ def main(root, *words):
                 if open(busy).read() == str(os.getpid()): os.remove(busy)
             except (OSError, ValueError): pass
     def worked(crate, kind, at, log, made):
-        if kind != "edits" and os.path.exists(f"{at}/done"):
+        if os.path.exists(f"{at}/done"):
             if os.path.isdir(f"{at}/rlib"): link_tree(f"{at}/rlib", f"{crate.folder}/out/rlib")
             if os.path.isdir(f"{at}/bin"):
                 os.makedirs(f"{crate.folder}/out", exist_ok=True)
@@ -103,11 +103,6 @@ def main(root, *words):
         with open(log, "w+") as crate.out:
             try:
                 os.makedirs(f"{crate.folder}/out", exist_ok=True)
-                if kind == "edits":
-                    good, bad = rt.edits_of(crate); ok = not bad
-                    for well, text in rt.must_fail_all(crate, good, ["--jobs", "1"]):
-                        print(text, file=crate.out, flush=True); ok &= well
-                    return ok, f"{len(good)} edits"
                 if kind == "proof" and rtlib.fmt(crate.folder, "--check", crate.out):
                     return False, "rt fmt"
                 status = crate.ci(["--jobs", opt.get("--each", "1")], kind == "tests")
@@ -130,8 +125,7 @@ def main(root, *words):
     for c in crates:
         tasks.append((c, "proof"))
         if "--tests" in flags and c.name in targets and c.has_tests(): tasks.append((c, "tests"))
-        if "--edits" in flags and c.name in targets and rt.edits_of(c)[0]: tasks.append((c, "edits"))
-    rank = {"proof": 0, "tests": 1, "edits": 2}
+    rank = {"proof": 0, "tests": 1}
     tasks.sort(key=lambda t: (rank[t[1]], first.get(t[0].name, 99), -behind[t[0].name]))
     ended, failed, running, lanes = {}, [], {}, int(opt.get("--jobs", "4"))
     memory = 0.9 * rt.free()
@@ -141,7 +135,7 @@ def main(root, *words):
             for t in list(tasks):
                 c, kind = t
                 if len(running) >= lanes: break
-                low = [(d.name, "proof") for d in c.below()] + ([(c.name, "proof")] if kind == "edits" else [])
+                low = [(d.name, "proof") for d in c.below()]
                 if any(ended.get(x) is False for x in low):
                     tasks.remove(t); ended[c.name, kind] = False; failed.append(f"{c.name} {kind} (below)"); continue
                 if not all(x in ended for x in low): continue

@@ -156,7 +156,7 @@ class Evening:
             deals.write_text(self.deals)
             with subprocess.Popen([PROGRAM, "serve", "--session", session, "--deals", deals, "--journal", self.journal, "--port", str(free_port())],
                                   stdin=subprocess.DEVNULL, stderr=subprocess.PIPE) as process:
-                # the cube has every third kill within the first three milliseconds, in which a fast machine starts it, and some late
+                # the cube has every third kill come within three milliseconds, in which a fast machine starts the server, and some late
                 time.sleep(self.rng.random() ** 3 * LONGEST_START)
                 process.kill()
                 told = process.stderr.read()

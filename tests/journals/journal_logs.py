@@ -4,10 +4,10 @@
     python3 tests/journals/journal_logs.py crates/bridge_server/out/bridge_server [STEP]
 
 It needs Debian's package sqlite3. A server that was killed has left a file and its log (`FILE-wal`). Each copy of the two, with the log cut
-or changed, is read by `bridge_server audit`, and some of them by a server that goes on with it; SQLite's own command finds each whole that was read. Each must have the first batches, whole, of
-those that were kept, or be refused by name; never a part of a batch. Where the log is but cut within its last batch, as a crash may leave
-it, none may be refused. Each line is a check: 'ok', or 'FAILED' with what came; the status is
-1 where one failed.
+or changed, is read by `bridge_server audit`, and some of them by a server that goes on with it. Each must have the first batches, whole, of
+those that were kept, and be whole for SQLite's own command, or be refused by name; never a part of a batch. Where the log is but cut within
+its last batch, as a crash may leave it, none may be refused. Each line is a check: 'ok', or 'FAILED' with what came; the status is 1 where
+one failed.
 """
 import collections
 import concurrent.futures
